@@ -1,5 +1,6 @@
 -- The contents of the lanes.
-use Rattle.std.specs.Prelude.{◌≡◌, ℕ, ◌+◌, ◌*◌, ◌^◌, ◌<◌, ◌≤◌, min, Bool, true, false, List, [], ◌∷◌, ◌++◌, length, slice_index, IsTrue}
+use Rattle.std.specs.Prelude.{◌≡◌, ℕ, ◌+◌, ◌*◌, ◌^◌, ◌<◌, ◌≤◌, min, Bool, true, false, List, [], ◌∷◌, ◌++◌, length}
+use Rattle.std.specs.Prelude.{slice_index, IsTrue}
 use Rattle.std.specs.Bool.{nat_lt}
 use Rattle.spec_words.specs.Bits.{is_set}
 use Rattle.acs_plain.specs.declared.sums.Sums.{Sums}
@@ -58,13 +59,16 @@ pub record AreLess (costs steps : List ℕ) : Type 0 where
 -- the lower cost of the ways from states 2k and 2k + 1 for sixteen k, and whether the odd one is strictly lower
 pub record AreTaken (old even_steps odd_steps costs : List ℕ) (word : ℕ) : Type 0 where
   pub len : length costs ≡ 16
-  pub cost : (k : ℕ) → k < 16 → slice_index costs k ≡ min (slice_index old (2 * k) + slice_index even_steps k) (slice_index old (2 * k + 1) + slice_index odd_steps k)
-  pub odd : (k : ℕ) → k < 16 → is_set word k ≡ nat_lt (slice_index old (2 * k + 1) + slice_index odd_steps k) (slice_index old (2 * k) + slice_index even_steps k)
+  pub cost : (k : ℕ) → k < 16 → slice_index costs k ≡ min (slice_index old (2 * k) + slice_index even_steps k)
+      (slice_index old (2 * k + 1) + slice_index odd_steps k)
+  pub odd : (k : ℕ) → k < 16 → is_set word k ≡ nat_lt (slice_index old (2 * k + 1) + slice_index odd_steps k)
+      (slice_index old (2 * k) + slice_index even_steps k)
   pub small : word < 2 ^ 16
 
 -- the step of 32 consecutive states: new costs of sixteen states below 32, starting at `from`, and of the sixteen
 -- states 32 above them
-pub record IsHalfStep (pair : CostPair) (from : ℕ) (part : List ℕ) (low_cost high_cost : ℕ → ℕ) (low_word high_word : ℕ) : Type 0 where
+pub record IsHalfStep (pair : CostPair) (from : ℕ) (part : List ℕ) (low_cost high_cost : ℕ → ℕ) (low_word high_word : ℕ)
+    : Type 0 where
   pub zero : List ℕ
   pub one : List ℕ
   pub low : List ℕ
@@ -77,8 +81,12 @@ pub record IsHalfStep (pair : CostPair) (from : ℕ) (part : List ℕ) (low_cost
 
 -- the step of all states: new state k on input 0 and k + 32 on input 1, both from states 2k and 2k + 1
 pub record IsLaneStep (pair : CostPair) (old new : List ℕ) (low high : ℕ) : Type 0 where
-  pub low_cost : (k : ℕ) → k < 32 → slice_index new k ≡ min (slice_index old (2 * k) + cost_from pair 0 false k) (slice_index old (2 * k + 1) + cost_from pair 1 false k)
-  pub low_odd : (k : ℕ) → k < 32 → is_set low k ≡ nat_lt (slice_index old (2 * k + 1) + cost_from pair 1 false k) (slice_index old (2 * k) + cost_from pair 0 false k)
+  pub low_cost : (k : ℕ) → k < 32 → slice_index new k ≡ min (slice_index old (2 * k) + cost_from pair 0 false k)
+      (slice_index old (2 * k + 1) + cost_from pair 1 false k)
+  pub low_odd : (k : ℕ) → k < 32 → is_set low k ≡ nat_lt (slice_index old (2 * k + 1) + cost_from pair 1 false k)
+      (slice_index old (2 * k) + cost_from pair 0 false k)
   pub low_small : low < 2 ^ 32
-  pub high_cost : (k : ℕ) → k < 32 → slice_index new (k + 32) ≡ min (slice_index old (2 * k) + cost_from pair 0 true k) (slice_index old (2 * k + 1) + cost_from pair 1 true k)
-  pub high_odd : (k : ℕ) → k < 32 → is_set high k ≡ nat_lt (slice_index old (2 * k + 1) + cost_from pair 1 true k) (slice_index old (2 * k) + cost_from pair 0 true k)
+  pub high_cost : (k : ℕ) → k < 32 → slice_index new (k + 32)
+      ≡ min (slice_index old (2 * k) + cost_from pair 0 true k) (slice_index old (2 * k + 1) + cost_from pair 1 true k)
+  pub high_odd : (k : ℕ) → k < 32 → is_set high k ≡ nat_lt (slice_index old (2 * k + 1) + cost_from pair 1 true k)
+      (slice_index old (2 * k) + cost_from pair 0 true k)

@@ -1,5 +1,6 @@
 -- The lanes in each of six phases, after which they are as they were.
-use Rattle.std.specs.Prelude.{◌≡◌, ℕ, zero, suc, ◌+◌, ◌-◌, ◌*◌, ◌/◌, ◌%◌, ◌^◌, ◌<◌, ◌≤◌, min, false, true, List, ◌++◌, length, map, slice_index}
+use Rattle.std.specs.Prelude.{◌≡◌, ℕ, zero, suc, ◌+◌, ◌-◌, ◌*◌, ◌/◌, ◌%◌, ◌^◌, ◌<◌, ◌≤◌, min, false, true, List, ◌++◌}
+use Rattle.std.specs.Prelude.{length, map, slice_index}
 use Rattle.std.specs.Bool.{nat_lt}
 use Rattle.std.specs.List.{range_with_len}
 use Rattle.spec_words.specs.Bits.{is_set}
@@ -9,9 +10,11 @@ use Rattle.acs_lanes.specs.Lanes16.{joined, way}
 
 -- the bits of k of these numbers, as those of a lane of two vectors, from bit 4 down
 abbrev pub lane_by : ℕ → ℕ → ℕ → ℕ → ℕ → ℕ → ℕ
-lane_by e d c b a k = 16 * (k / 2 ^ e % 2) + 8 * (k / 2 ^ d % 2) + 4 * (k / 2 ^ c % 2) + 2 * (k / 2 ^ b % 2) + k / 2 ^ a % 2
+lane_by e d c b a k = 16 * (k / 2 ^ e % 2) + 8 * (k / 2 ^ d % 2) + 4 * (k / 2 ^ c % 2) + 2 * (k / 2 ^ b % 2)
+    + k / 2 ^ a % 2
 
--- Which lane the states 2k and 2k + 1 have before a step of this phase, in two vectors each. The step leaves the states k and
+-- Which lane the states 2k and 2k + 1 have before a step of this phase, in two vectors each. The step leaves the states
+-- k and
 -- k + 32 in their places.
 abbrev pub way_in : ℕ → ℕ → ℕ
 way_in zero k = way k
@@ -34,16 +37,21 @@ next p = (p + 1) % 6
 
 -- The step of all states, as by lanes, with one word: new state k on the input 0 and new state k + 32 on 1.
 pub record IsWordStep (pair : CostPair) (old new : List ℕ) (word : ℕ) : Type 0 where
-  pub low_cost : (k : ℕ) → k < 32 → slice_index new k ≡ min (slice_index old (2 * k) + cost_from pair 0 false k) (slice_index old (2 * k + 1) + cost_from pair 1 false k)
-  pub low_odd : (k : ℕ) → k < 32 → is_set word k ≡ nat_lt (slice_index old (2 * k + 1) + cost_from pair 1 false k) (slice_index old (2 * k) + cost_from pair 0 false k)
-  pub high_cost : (k : ℕ) → k < 32 → slice_index new (k + 32) ≡ min (slice_index old (2 * k) + cost_from pair 0 true k) (slice_index old (2 * k + 1) + cost_from pair 1 true k)
-  pub high_odd : (k : ℕ) → k < 32 → is_set word (k + 32) ≡ nat_lt (slice_index old (2 * k + 1) + cost_from pair 1 true k) (slice_index old (2 * k) + cost_from pair 0 true k)
+  pub low_cost : (k : ℕ) → k < 32 → slice_index new k ≡ min (slice_index old (2 * k) + cost_from pair 0 false k)
+      (slice_index old (2 * k + 1) + cost_from pair 1 false k)
+  pub low_odd : (k : ℕ) → k < 32 → is_set word k ≡ nat_lt (slice_index old (2 * k + 1) + cost_from pair 1 false k)
+      (slice_index old (2 * k) + cost_from pair 0 false k)
+  pub high_cost : (k : ℕ) → k < 32 → slice_index new (k + 32)
+      ≡ min (slice_index old (2 * k) + cost_from pair 0 true k) (slice_index old (2 * k + 1) + cost_from pair 1 true k)
+  pub high_odd : (k : ℕ) → k < 32 → is_set word (k + 32) ≡ nat_lt (slice_index old (2 * k + 1) + cost_from pair 1 true
+      k) (slice_index old (2 * k) + cost_from pair 0 true k)
 
 -- the four sums of a pair, four times
 abbrev pub all_sums : CostPair → List ℕ
 all_sums pair = map (λ k. slice_index (four pair) (k % 4)) (range_with_len 0 16)
 
--- What the steps cost in the first and in the last vectors: from the even states on 0, as from the odd ones on 1, and from the
+-- What the steps cost in the first and in the last vectors: from the even states on 0, as from the odd ones on 1, and
+-- from the
 -- even ones on 1, as from the odd ones on 0.
 pub record AreCostsIn (phase : ℕ) (pair : CostPair) (zero_first one_first zero_last one_last : List ℕ) : Type 0 where
   pub zero_first_len : length zero_first ≡ 16
@@ -61,9 +69,11 @@ pub record AreCostsIn (phase : ℕ) (pair : CostPair) (zero_first one_first zero
 
 -- a number with two of its bits exchanged, one below bit 4 and that one
 abbrev pub swapped : ℕ → ℕ → ℕ
-swapped e n = n / 32 * 32 + 16 * (n / 2 ^ e % 2) + n / 2 ^ (e + 1) % 2 ^ (3 - e) * 2 ^ (e + 1) + 2 ^ e * (n / 16 % 2) + n % 2 ^ e
+swapped e n = n / 32 * 32 + 16 * (n / 2 ^ e % 2) + n / 2 ^ (e + 1) % 2 ^ (3 - e) * 2 ^ (e + 1) + 2 ^ e * (n / 16 % 2)
+    + n % 2 ^ e
 
--- Bytes are put in order within each half of a vector, so bit 4 of a state's number is still the one that says which half.
+-- Bytes are put in order within each half of a vector, so bit 4 of a state's number is still the one that says which
+-- half.
 abbrev pub exchanged : ℕ → ℕ → ℕ
 exchanged zero n = n
 exchanged (suc zero) n = swapped 3 n

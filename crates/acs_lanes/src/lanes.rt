@@ -50,7 +50,8 @@ pub(crate) fn four_costs(pair: CostPair) -> u32x4
     costs.swizzle([0, 0, 1, 1]) + costs.swizzle([2, 3, 2, 3])
 }
 
-/// The costs of the steps from the even states below 32 on 0, which are those from the odd states on 1, and the others: X
+/// The costs of the steps from the even states below 32 on 0, which are those from the odd states on 1, and the others:
+/// X
 /// and Y of two steps both differ where the oldest bit alone or the input alone does.
 pub(crate) fn first_costs(costs: u32x4) -> (u32x16, u32x16)
     ensures { (pair : Pair) → costs ≡ four pair → AreStepCosts pair 0 result.0 result.1 }
@@ -77,8 +78,10 @@ pub(crate) fn pick(even: u32x16, even_step: u32x16, odd: u32x16, odd_step: u32x1
     requires lens { AreLess even even_step }
     requires odd_lens { AreLess odd odd_step }
     ensures len { length result.0 ≡ 16 }
-    ensures cost { (k : ℕ) → k < 16 → slice_index result.0 k ≡ min (slice_index even k + slice_index even_step k) (slice_index odd k + slice_index odd_step k) }
-    ensures odd { (k : ℕ) → k < 16 → is_set result.1 k ≡ nat_lt (slice_index odd k + slice_index odd_step k) (slice_index even k + slice_index even_step k) }
+    ensures cost { (k : ℕ) → k < 16 → slice_index result.0 k
+        ≡ min (slice_index even k + slice_index even_step k) (slice_index odd k + slice_index odd_step k) }
+    ensures odd { (k : ℕ) → k < 16 → is_set result.1 k ≡ nat_lt (slice_index odd k + slice_index odd_step k)
+        (slice_index even k + slice_index even_step k) }
     ensures small { result.1 < 2 ^ 16 }
 {
     let evens = even + even_step;
@@ -86,7 +89,8 @@ pub(crate) fn pick(even: u32x16, even_step: u32x16, odd: u32x16, odd_step: u32x1
     (least, !least.simd_eq(evens).to_bitmask() & 0xFFFF)
 }
 
-/// What comes of 32 states in a row, by the costs of their steps: the costs of 16 states below 32 and of the 16 states that
+/// What comes of 32 states in a row, by the costs of their steps: the costs of 16 states below 32 and of the 16 states
+/// that
 /// lie 32 above them, and behind each the word that says which of them came from the odd state.
 fn sixteen(old: &[u32], zero: u32x16, one: u32x16) -> (u32x16, u64, u32x16, u64)
     requires old { length old.now ≡ 32 }
@@ -126,12 +130,14 @@ fn joined(first: u64, last: u64) -> u64
     first | last << 16
 }
 
-/// What comes of the upper half of the states: the costs of the states from 48 on are written, those of the states from 16
+/// What comes of the upper half of the states: the costs of the states from 48 on are written, those of the states from
+/// 16
 /// to 31 wait until the lower half is read.
 fn last_half(cost: &mut [u32; 64], waiting: &mut [u32; 16], costs: u32x4) -> (u64, u64)
     requires costs { (pair : Pair) × (costs ≡ four pair) }
     requires fit { (j : ℕ) → j < 64 → slice_index cost.old j + 8190 < 2 ^ 32 }
-    ensures half { (pair : Pair) → costs ≡ four pair → IsHalfStep pair 16 (take 32 (drop 32 cost.old)) (slice_index waiting.new) (λ k. slice_index cost.new (48 + k)) result.0 result.1 }
+    ensures half { (pair : Pair) → costs ≡ four pair → IsHalfStep pair 16 (take 32 (drop 32 cost.old)) (slice_index
+        waiting.new) (λ k. slice_index cost.new (48 + k)) result.0 result.1 }
     ensures same { (k : ℕ) → k < 48 → slice_index cost.new k ≡ slice_index cost.old k }
 {
     let (zero, one) = last_costs(costs);
@@ -145,7 +151,8 @@ fn last_half(cost: &mut [u32; 64], waiting: &mut [u32; 16], costs: u32x4) -> (u6
 fn first_half(cost: &mut [u32; 64], costs: u32x4) -> (u64, u64)
     requires costs { (pair : Pair) × (costs ≡ four pair) }
     requires fit { (j : ℕ) → j < 32 → slice_index cost.old j + 8190 < 2 ^ 32 }
-    ensures half { (pair : Pair) → costs ≡ four pair → IsHalfStep pair 0 (take 32 cost.old) (slice_index cost.new) (λ k. slice_index cost.new (32 + k)) result.0 result.1 }
+    ensures half { (pair : Pair) → costs ≡ four pair → IsHalfStep pair 0 (take 32 cost.old) (slice_index cost.new) (λ k.
+        slice_index cost.new (32 + k)) result.0 result.1 }
     ensures same { (k : ℕ) → 48 ≤ k → k < 64 → slice_index cost.new k ≡ slice_index cost.old k }
 {
     let (zero, one) = first_costs(costs);

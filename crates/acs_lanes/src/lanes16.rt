@@ -7,7 +7,8 @@ use acs_plain::Sums;
 use std::simd::cmp::{SimdOrd, SimdPartialOrd};
 use std::simd::{u16x16, u32x16};
 
-/// The costs of the 64 states, 16 of them in each vector, in an order that a step gives back: the even states in the first
+/// The costs of the 64 states, 16 of them in each vector, in an order that a step gives back: the even states in the
+/// first
 /// two vectors, the odd ones in the last two.
 #[derive(Clone, Copy, Drop)]
 pub(crate) struct Lanes {
@@ -72,7 +73,8 @@ fn part(costs: &[u16; 64], from: usize) -> u16x16
 pub(crate) fn narrow(costs: &[u32; 64], low: u32) -> Lanes
     requires low { (n : ℕ) → n < 64 → low ≤ slice_index costs.now n }
     requires high { (n : ℕ) → n < 64 → slice_index costs.now n ≤ low + 49140 }
-    ensures is { (n : ℕ) → n < 64 → slice_index (laid result.a result.b result.c result.d) n + low ≡ slice_index costs.now n }
+    ensures is { (n : ℕ) → n < 64 → slice_index (laid result.a result.b result.c result.d) n + low
+        ≡ slice_index costs.now n }
 {
     let lanes = narrowed(costs, low);
     Lanes {
@@ -152,11 +154,13 @@ fn is_high(lanes: Lanes) -> bool
 }
 
 /// The least cost in the lanes.
-// It is a call of its own, since it is seldom made. It gives a number, so that the lanes stay in registers where none is made.
+// It is a call of its own, since it is seldom made. It gives a number, so that the lanes stay in registers where none
+// is made.
 #[inline(never)]
 fn least(lanes: Lanes) -> u32
     ensures below { (n : ℕ) → n < 64 → result ≤ slice_index (joined lanes.a lanes.b lanes.c lanes.d) n }
-    ensures close { AreClose (joined lanes.a lanes.b lanes.c lanes.d) → (n : ℕ) → n < 64 → slice_index (joined lanes.a lanes.b lanes.c lanes.d) n ≤ result + 49140 }
+    ensures close { AreClose (joined lanes.a lanes.b lanes.c lanes.d) → (n : ℕ) → n < 64
+        → slice_index (joined lanes.a lanes.b lanes.c lanes.d) n ≤ result + 49140 }
     ensures fits { result < 2 ^ 16 }
 {
     let sums = Sums {
@@ -182,7 +186,8 @@ fn less(lanes: u16x16, low: u16) -> u16x16
 #[inline(always)]
 fn less_by(lanes: Lanes, low: u16) -> Lanes
     requires { (n : ℕ) → n < 64 → low ≤ slice_index (joined lanes.a lanes.b lanes.c lanes.d) n }
-    ensures { (n : ℕ) → n < 64 → slice_index (joined result.a result.b result.c result.d) n + low ≡ slice_index (joined lanes.a lanes.b lanes.c lanes.d) n }
+    ensures { (n : ℕ) → n < 64 → slice_index (joined result.a result.b result.c result.d) n + low
+        ≡ slice_index (joined lanes.a lanes.b lanes.c lanes.d) n }
 {
     Lanes {
         a: less(lanes.a, low),
@@ -202,7 +207,8 @@ fn less_by_least(lanes: Lanes) -> Lanes
 }
 
 /// The lanes made such that the costs of two steps may be added.
-// Where one is at least 49,156 the least is taken from each, which leaves 49,140 at most, since they are that close; and
+// Where one is at least 49,156 the least is taken from each, which leaves 49,140 at most, since they are that close;
+// and
 // 65,535 - 2 * 8,190 = 49,155.
 #[inline(always)]
 pub(crate) fn lowered(lanes: Lanes) -> Lanes

@@ -1,10 +1,12 @@
 //! One step of the Viterbi decoder in lanes: the new states i and i + 32 from the old states 2i and 2i + 1, sixteen
 //! at once.
 //!
-//! Many steps in a row keep the costs in lanes of 16 bits, all 64 in four vectors, which hold them since alive costs differ by
+//! Many steps in a row keep the costs in lanes of 16 bits, all 64 in four vectors, which hold them since alive costs
+//! differ by
 //! at most 49,140: before each two steps that could leave 16 bits the least is taken from all of them.
 //!
-//! `LaneAcs` means what every step of `acs_plain` means. [`forward`] and [`backward`] take one step more of the least totals
+//! `LaneAcs` means what every step of `acs_plain` means. [`forward`] and [`backward`] take one step more of the least
+//! totals
 //! to and from each state, for whoever needs these themselves.
 #![tactic(auto)]
 

@@ -3,7 +3,8 @@ ghost use Rattle.std.specs.Prelude.{◌≡◌, ◌≤◌, ◌<◌, ◌+◌, ◌*
 ghost use Rattle.spec_words.specs.Bits.{is_set};
 ghost use Rattle.code_paths.specs.declared.costs.CostPair.{CostPair as Pair};
 ghost use Rattle.acs_lanes.specs.Lanes16.{AreMarks};
-ghost use Rattle.acs_lanes.specs.Phases.{AreCostsIn, AreTurnedIn, all_sums, exchanged, laid_in, lower_eights, lower_fours, next, ordered, upper_eights, upper_fours, way_in};
+ghost use Rattle.acs_lanes.specs.Phases.{AreCostsIn, AreTurnedIn, all_sums, exchanged, laid_in, lower_eights};
+ghost use Rattle.acs_lanes.specs.Phases.{lower_fours, next, ordered, upper_eights, upper_fours, way_in};
 
 use crate::lanes16::Lanes;
 use crate::step16::repeated;
@@ -21,7 +22,8 @@ pub(crate) fn all_sums(pair: CostPair) -> u16x16
         + costs.swizzle([2, 3, 2, 3, 2, 3, 2, 3, 10, 11, 10, 11, 10, 11, 10, 11])
 }
 
-/// The costs of the steps from the even states on 0, as from the odd ones on 1, and of the others: of the first vectors, and
+/// The costs of the steps from the even states on 0, as from the odd ones on 1, and of the others: of the first
+/// vectors, and
 /// of the second ones.
 #[inline(always)]
 pub(crate) fn costs_in(phase: usize, sums: u16x16) -> (u16x16, u16x16, u16x16, u16x16)
@@ -98,7 +100,8 @@ fn ordered_in(phase: usize, bytes: u8x32) -> u8x32
     }
 }
 
-/// The word with its bits in the order of states: the bit of a state's number that said which half of a vector it is in goes
+/// The word with its bits in the order of states: the bit of a state's number that said which half of a vector it is in
+/// goes
 /// to its place.
 #[inline(always)]
 fn exchanged_in(phase: usize, word: u64) -> u64
@@ -135,7 +138,8 @@ fn exchanged_in(phase: usize, word: u64) -> u64
 fn half_word(phase: usize, first: u16x16, last: u16x16) -> u64
     requires { phase < 6 }
     ensures small { result < 2 ^ 32 }
-    ensures bits { (is_odd : ℕ → Bool) → AreMarks first last is_odd → (k : ℕ) → k < 32 → is_set result k ≡ is_odd (way_in phase (exchanged phase k)) }
+    ensures bits { (is_odd : ℕ → Bool) → AreMarks first last is_odd → (k : ℕ) → k < 32 → is_set result k
+        ≡ is_odd (way_in phase (exchanged phase k)) }
 {
     let bytes = ordered_in(phase, (first | last).to_le_bytes());
     bytes.simd_lt(u8x32::splat(128)).to_bitmask()
@@ -151,8 +155,10 @@ pub(crate) fn word_in(
     high_last: u16x16,
 ) -> u64
     requires { phase < 6 }
-    ensures low { (is_odd : ℕ → Bool) → AreMarks low_first low_last is_odd → (k : ℕ) → k < 32 → is_set result k ≡ is_odd (way_in phase k) }
-    ensures high { (is_odd : ℕ → Bool) → AreMarks high_first high_last is_odd → (k : ℕ) → k < 32 → is_set result (k + 32) ≡ is_odd (way_in phase k) }
+    ensures low { (is_odd : ℕ → Bool) → AreMarks low_first low_last is_odd → (k : ℕ) → k < 32 → is_set result k
+        ≡ is_odd (way_in phase k) }
+    ensures high { (is_odd : ℕ → Bool) → AreMarks high_first high_last is_odd → (k : ℕ) → k < 32
+        → is_set result (k + 32) ≡ is_odd (way_in phase k) }
 {
     let low = half_word(phase, low_first, low_last);
     let high = half_word(phase, high_first, high_last);
@@ -241,7 +247,8 @@ pub(crate) fn turned_in(
     high_last: u16x16,
 ) -> Lanes
     requires { phase < 6 }
-    ensures { AreTurnedIn phase low_first low_last high_first high_last (laid_in (next phase) result.a result.b result.c result.d) }
+    ensures { AreTurnedIn phase low_first low_last high_first high_last
+        (laid_in (next phase) result.a result.b result.c result.d) }
 {
     if phase < 3 {
         by_fours(low_first, low_last, high_first, high_last)

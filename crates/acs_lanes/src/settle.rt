@@ -30,7 +30,8 @@ fn relative(sums: &Sums, low: u32, state: u8) -> u32
 /// The costs of all states relative to the least one.
 fn all_relative(sums: &Sums, low: u32) -> [u32; 64]
     requires low { (n : ℕ) → n < 64 → IsTrue (alive sums.now n) → low ≤ slice_index sums.now.cost n }
-    ensures lives { (n : ℕ) → n < 64 → IsTrue (alive sums.now n) → slice_index result n + low ≡ slice_index sums.now.cost n }
+    ensures lives { (n : ℕ) → n < 64 → IsTrue (alive sums.now n) → slice_index result n + low
+        ≡ slice_index sums.now.cost n }
     ensures dead { (n : ℕ) → n < 64 → IsFalse (alive sums.now n) → slice_index result n ≡ far }
 {
     let mut costs = [0u32; 64];
@@ -40,7 +41,8 @@ fn all_relative(sums: &Sums, low: u32) -> [u32; 64]
     costs
 }
 
-/// Makes the sums such that no step from them leaves 32 bits, and puts every state that is not alive far above the others.
+/// Makes the sums such that no step from them leaves 32 bits, and puts every state that is not alive far above the
+/// others.
 /// The answer is the number subtracted from all alive costs.
 pub(crate) fn settle(sums: &mut Sums) -> u32
     requires some { SomeAlive sums.old }

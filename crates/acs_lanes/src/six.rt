@@ -16,7 +16,8 @@ use conv_code::CostPair;
 fn step_in(phase: usize, old: Lanes, pair: CostPair) -> (Lanes, u64)
     requires phase { phase < 6 }
     requires fit { (n : ℕ) → n < 64 → slice_index (joined old.a old.b old.c old.d) n ≤ 57345 }
-    ensures step { IsWordStep pair (laid_in phase old.a old.b old.c old.d) (laid_in (next phase) result.0.a result.0.b result.0.c result.0.d) result.1 }
+    ensures step { IsWordStep pair (laid_in phase old.a old.b old.c old.d)
+        (laid_in (next phase) result.0.a result.0.b result.0.c result.0.d) result.1 }
 {
     let (zero_first, one_first, zero_last, one_last) = costs_in(phase, all_sums(pair));
     let (low_first, low_first_even) = pick(old.a, zero_first, old.c, one_first, 0x00FF);
@@ -42,7 +43,10 @@ fn two_in(phase: usize, from: Lanes, pairs: &[CostPair], at: usize, words: &mut 
     requires spread { IsSpread (all_with (laid_in phase from.a from.b from.c from.d)) }
     requires room { length words.old ≡ length pairs.now }
     requires more { at + 2 ≤ length pairs.now }
-    ensures steps { (start : Sums) → AreSteps start (take at pairs.now) (all_with (laid_in phase from.a from.b from.c from.d)) (take at words.old) → AreSteps start (take (at + 2) pairs.now) (all_with (laid_in (next (phase + 1)) result.a result.b result.c result.d)) (take (at + 2) words.new) }
+    ensures steps { (start : Sums) → AreSteps start (take at pairs.now) (all_with
+        (laid_in phase from.a from.b from.c from.d)) (take at words.old)
+        → AreSteps start (take (at + 2) pairs.now) (all_with
+        (laid_in (next (phase + 1)) result.a result.b result.c result.d)) (take (at + 2) words.new) }
     ensures spread { IsSpread (all_with (laid_in (next (phase + 1)) result.a result.b result.c result.d)) }
     ensures room { length words.new ≡ length pairs.now }
 {
@@ -59,7 +63,8 @@ fn two_in(phase: usize, from: Lanes, pairs: &[CostPair], at: usize, words: &mut 
 pub(crate) fn run_sixes(from: Lanes, pairs: &[CostPair], words: &mut [u64]) -> Lanes
     requires spread { IsSpread (all_with (laid from.a from.b from.c from.d)) }
     requires room { length words.old ≡ length pairs.now }
-    ensures steps { AreSteps (all_with (laid from.a from.b from.c from.d)) (take (6 * (length pairs.now / 6)) pairs.now) (all_with (laid result.a result.b result.c result.d)) (take (6 * (length pairs.now / 6)) words.new) }
+    ensures steps { AreSteps (all_with (laid from.a from.b from.c from.d)) (take (6 * (length pairs.now / 6)) pairs.now)
+        (all_with (laid result.a result.b result.c result.d)) (take (6 * (length pairs.now / 6)) words.new) }
     ensures spread { IsSpread (all_with (laid result.a result.b result.c result.d)) }
     ensures room { length words.new ≡ length pairs.now }
 {

@@ -16,7 +16,8 @@ fn run_rest(from: Lanes, pairs: &[CostPair], at: usize, words: &mut [u64]) -> La
     requires spread { IsSpread (all_with (laid from.a from.b from.c from.d)) }
     requires room { length words.old ≡ length pairs.now }
     requires within { at ≤ length pairs.now }
-    ensures steps { (start : AllSums) → AreSteps start (take at pairs.now) (all_with (laid from.a from.b from.c from.d)) (take at words.old) → AreSteps start pairs.now (all_with (laid result.a result.b result.c result.d)) words.new }
+    ensures steps { (start : AllSums) → AreSteps start (take at pairs.now) (all_with (laid from.a from.b from.c from.d))
+        (take at words.old) → AreSteps start pairs.now (all_with (laid result.a result.b result.c result.d)) words.new }
     ensures room { length words.new ≡ length pairs.now }
 {
     let mut lanes = from;
@@ -32,7 +33,8 @@ fn run_rest(from: Lanes, pairs: &[CostPair], at: usize, words: &mut [u64]) -> La
 fn run_lanes(from: Lanes, pairs: &[CostPair], words: &mut [u64]) -> Lanes
     requires spread { IsSpread (all_with (laid from.a from.b from.c from.d)) }
     requires room { length words.old ≡ length pairs.now }
-    ensures steps { AreSteps (all_with (laid from.a from.b from.c from.d)) pairs.now (all_with (laid result.a result.b result.c result.d)) words.new }
+    ensures steps { AreSteps (all_with (laid from.a from.b from.c from.d)) pairs.now
+        (all_with (laid result.a result.b result.c result.d)) words.new }
     ensures room { length words.new ≡ length pairs.now }
 {
     let lanes = run_sixes(from, pairs, words);

@@ -2,7 +2,8 @@
 ghost use Rattle.std.specs.Prelude.{◌≡◌, ◌≤◌, ◌<◌, ◌^◌, ◌++◌, ℕ, Bool, slice_index};
 ghost use Rattle.spec_words.specs.Bits.{is_set};
 ghost use Rattle.acs_lanes.specs.Lanes.{IsLaneStep};
-ghost use Rattle.acs_lanes.specs.Lanes16.{AddFits, AreLaidCosts, AreLesser, AreMarks, AreTurned, joined, laid, repeated, way};
+ghost use Rattle.acs_lanes.specs.Lanes16.{AddFits, AreLaidCosts, AreLesser, AreMarks, AreTurned, joined, laid};
+ghost use Rattle.acs_lanes.specs.Lanes16.{repeated, way};
 
 use crate::lanes16::Lanes;
 use conv_code::CostPair;
@@ -58,7 +59,8 @@ pub(crate) fn pick(
 // The marks lie side by side in bytes, so that the bytes of each half of a vector are put in order by one instruction.
 fn word_of(first: u16x16, last: u16x16) -> u64
     ensures small { result < 2 ^ 32 }
-    ensures bits { (is_odd : ℕ → Bool) → AreMarks first last is_odd → (k : ℕ) → k < 32 → is_set result k ≡ is_odd (way k) }
+    ensures bits { (is_odd : ℕ → Bool) → AreMarks first last is_odd → (k : ℕ) → k < 32 → is_set result k
+        ≡ is_odd (way k) }
 {
     let bytes = (first | last).to_le_bytes();
     let ordered = bytes.swizzle([
@@ -68,7 +70,8 @@ fn word_of(first: u16x16, last: u16x16) -> u64
     ordered.simd_lt(u8x32::splat(128)).to_bitmask()
 }
 
-/// The new costs of the states below 32 and of the others, each of which two vectors hold where the ways lead, as lanes.
+/// The new costs of the states below 32 and of the others, each of which two vectors hold where the ways lead, as
+/// lanes.
 fn turned(low_first: u16x16, low_last: u16x16, high_first: u16x16, high_last: u16x16) -> Lanes
     requires low { (w : ℕ) → w < 32 → slice_index (low_first ++ low_last) w < 2 ^ 16 }
     requires high { (w : ℕ) → w < 32 → slice_index (high_first ++ high_last) w < 2 ^ 16 }
@@ -113,7 +116,8 @@ fn turned(low_first: u16x16, low_last: u16x16, high_first: u16x16, high_last: u1
 /// The step over all states: the new costs, and the words of the states below 32 and of the others.
 pub(crate) fn step(old: Lanes, pair: CostPair) -> (Lanes, u64, u64)
     requires fit { (n : ℕ) → n < 64 → slice_index (joined old.a old.b old.c old.d) n ≤ 57345 }
-    ensures step { IsLaneStep pair (laid old.a old.b old.c old.d) (laid result.0.a result.0.b result.0.c result.0.d) result.1 result.2 }
+    ensures step { IsLaneStep pair (laid old.a old.b old.c old.d) (laid result.0.a result.0.b result.0.c result.0.d)
+        result.1 result.2 }
 {
     let (zero, one) = step_costs(pair);
     let (low_first, low_first_even) = pick(old.a, zero, old.c, one, 0x00FF);

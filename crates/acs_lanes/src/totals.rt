@@ -9,8 +9,10 @@ use std::simd::u32x16;
 
 /// Takes a step forward: from the least sums to each state before a step to those behind it.
 ///
-/// A state is the register of the inner code as a number below 64: the newest bit is bit 5, the oldest bit 0. State n is
-/// reached from the states `2 * (n % 32)` and the one after it, on the input that is its newest bit. Each sum must have room
+/// A state is the register of the inner code as a number below 64: the newest bit is bit 5, the oldest bit 0. State n
+/// is
+/// reached from the states `2 * (n % 32)` and the one after it, on the input that is its newest bit. Each sum must have
+/// room
 /// for the costs of a step, at most 8190 (EN 300 744, 4.3.3).
 pub fn forward(sums: &mut [u32; 64], pair: CostPair)
     requires fit { (n : ℕ) → n < 64 → slice_index sums.old n + 8190 < 2 ^ 32 }
@@ -31,8 +33,10 @@ fn from_both(zero: u32x16, one: u32x16, same: u32x16, other: u32x16) -> (u32x16,
     requires other_small { (k : ℕ) → k < 16 → slice_index other k ≤ 8190 }
     ensures first_len { length result.0 ≡ 16 }
     ensures last_len { length result.1 ≡ 16 }
-    ensures even { (k : ℕ) → k < 16 → slice_index (result.0 ++ result.1) (2 * k) ≡ min (slice_index zero k + slice_index same k) (slice_index one k + slice_index other k) }
-    ensures odd { (k : ℕ) → k < 16 → slice_index (result.0 ++ result.1) (2 * k + 1) ≡ min (slice_index zero k + slice_index other k) (slice_index one k + slice_index same k) }
+    ensures even { (k : ℕ) → k < 16 → slice_index (result.0 ++ result.1) (2 * k)
+        ≡ min (slice_index zero k + slice_index same k) (slice_index one k + slice_index other k) }
+    ensures odd { (k : ℕ) → k < 16 → slice_index (result.0 ++ result.1) (2 * k + 1)
+        ≡ min (slice_index zero k + slice_index other k) (slice_index one k + slice_index same k) }
 {
     let (even, _even_word) = pick(zero, same, one, other);
     let (odd, _odd_word) = pick(zero, other, one, same);
@@ -56,7 +60,8 @@ fn store_all(sums: &mut [u32; 64], a: u32x16, b: u32x16, c: u32x16, d: u32x16)
 /// Takes a step backward: from the least sums that paths cost from each state behind a step on to those from each state
 /// before it.
 ///
-/// States `2 * k` and the one after it lead to state k on the input 0 and to state k + 32 on 1. Each sum must have room for
+/// States `2 * k` and the one after it lead to state k on the input 0 and to state k + 32 on 1. Each sum must have room
+/// for
 /// the costs of a step, at most 8190 (EN 300 744, 4.3.3).
 pub fn backward(sums: &mut [u32; 64], pair: CostPair)
     requires fit { (n : ℕ) → n < 64 → slice_index sums.old n + 8190 < 2 ^ 32 }

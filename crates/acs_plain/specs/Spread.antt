@@ -13,4 +13,5 @@ pub record IsSpread (sums : Sums) : Type 0 where
   pub few : fixed < 7
   pub small : start < 2 ^ fixed
   pub lives : (n : ℕ) → n < 64 → alive sums n ≡ (n % 2 ^ fixed == start)
-  pub close : (k : ℕ) → k ≤ 6 → (m n : ℕ) → m < 64 → n < 64 → IsTrue (alive sums m) → IsTrue (alive sums n) → m % 2 ^ (6 - k) ≡ n % 2 ^ (6 - k) → slice_index sums.cost m ≤ slice_index sums.cost n + 8190 * k
+  pub close : (k : ℕ) → k ≤ 6 → (m n : ℕ) → m < 64 → n < 64 → IsTrue (alive sums m) → IsTrue (alive sums n)
+      → m % 2 ^ (6 - k) ≡ n % 2 ^ (6 - k) → slice_index sums.cost m ≤ slice_index sums.cost n + 8190 * k

@@ -1,5 +1,6 @@
 // The step computed state by state.
-ghost use Rattle.std.specs.Prelude.{◌≡◌, ◌≤◌, ◌<◌, ℕ, ◌+◌, ◌++◌, ◌∷◌, [], true, IsTrue, ◌||◌, slice_index, if◌then◌else◌};
+ghost use Rattle.std.specs.Prelude.{◌≡◌, ◌≤◌, ◌<◌, ℕ, ◌+◌, ◌++◌, ◌∷◌, [], true, IsTrue, ◌||◌, slice_index};
+ghost use Rattle.std.specs.Prelude.{if◌then◌else◌};
 ghost use Rattle.code_paths.specs.Paths.{step_cost};
 ghost use Rattle.code_paths.specs.States.{register, even_of, odd_of};
 ghost use Rattle.acs_plain.specs.Steps.{alive, way, takes_odd};
@@ -48,7 +49,8 @@ fn choose(old: &Sums, low: u32, pair: CostPair, state: u8) -> Choice
     requires close { (n : ℕ) → n < 64 → IsTrue (alive old.now n) → slice_index old.now.cost n ≤ low + 131072 }
     ensures lives { result.alive ≡ (alive old.now (even_of state) || alive old.now (odd_of state)) }
     ensures odd { IsTrue result.alive → result.odd ≡ takes_odd old.now pair state }
-    ensures cost { IsTrue result.alive → result.cost + low ≡ way old.now pair (if takes_odd old.now pair state then odd_of state else even_of state) state }
+    ensures cost { IsTrue result.alive → result.cost + low ≡ way old.now pair (if takes_odd old.now pair state then
+        odd_of state else even_of state) state }
 {
     let even = 2 * (state % 32);
     let odd = even + 1;

@@ -1,5 +1,6 @@
 -- The position of a coded bit in the labels of its symbol, before symbol interleaving (EN 300 744, 4.3.4.1).
-use Rattle.std.specs.Prelude.{◌≡◌, ℕ, ◌+◌, ◌-◌, ◌*◌, ◌/◌, ◌%◌, ◌<◌, ◌==◌, nat_lt, ◌&&◌, ◌||◌, Bool, IsTrue, if◌then◌else◌, [], ◌∷◌, slice_index}
+use Rattle.std.specs.Prelude.{◌≡◌, ℕ, ◌+◌, ◌-◌, ◌*◌, ◌/◌, ◌%◌, ◌<◌, ◌==◌, nat_lt, ◌&&◌, ◌||◌, Bool, IsTrue}
+use Rattle.std.specs.Prelude.{if◌then◌else◌, [], ◌∷◌, slice_index}
 use Rattle.spec_words.specs.Words.{first_below}
 use Rattle.mode_set.specs.Kept.{is_flat, is_qpsk}
 use Rattle.mode_set.specs.StreamTable.{has_stream, width}

@@ -94,7 +94,8 @@ fn push_margins(
     requires rows { (t : ℕ) → from + t < until → AreBackward (drop (from + t + 1) window.now) (row rows.now t) }
     requires spare { vec_len to.old + (until - from) ≤ vec_capacity to.old }
     requires passed { HavePassed window.now from before.old to.old.items }
-    ensures passed { (s : StartState) (old : List ℕ) → Passed s window.now from before.old old to.old.items → Passed s window.now until before.new old to.new.items }
+    ensures passed { (s : StartState) (old : List ℕ) → Passed s window.now from before.old old to.old.items
+        → Passed s window.now until before.new old to.new.items }
     ensures len { vec_len to.new ≡ vec_len to.old + (until - from) }
     ensures capacity { vec_capacity to.new ≡ vec_capacity to.old }
 {
@@ -122,7 +123,8 @@ fn push_part(
     requires behind { AreBackward (drop until window.now) behind.now }
     requires spare { vec_len to.old + (until - from) ≤ vec_capacity to.old }
     requires passed { HavePassed window.now from before.old to.old.items }
-    ensures passed { (s : StartState) (old : List ℕ) → Passed s window.now from before.old old to.old.items → Passed s window.now until before.new old to.new.items }
+    ensures passed { (s : StartState) (old : List ℕ) → Passed s window.now from before.old old to.old.items
+        → Passed s window.now until before.new old to.new.items }
     ensures size { length rows.new ≡ length rows.old }
     ensures len { vec_len to.new ≡ vec_len to.old + (until - from) }
     ensures capacity { vec_capacity to.new ≡ vec_capacity to.old }

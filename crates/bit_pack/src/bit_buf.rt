@@ -1,5 +1,6 @@
 // The queue of bits.
-ghost use Rattle.std.specs.Prelude.{◌≡◌, ◌+◌, ◌*◌, ◌<◌, ◌≤◌, ◌^◌, ℕ, Bool, List, [], ◌∷◌, ◌++◌, ◌-◌, ◌%◌, length, IsNone, IfSome, ◌↔◌};
+ghost use Rattle.std.specs.Prelude.{◌≡◌, ◌+◌, ◌*◌, ◌<◌, ◌≤◌, ◌^◌, ℕ, Bool, List, [], ◌∷◌, ◌++◌, ◌-◌, ◌%◌, length};
+ghost use Rattle.std.specs.Prelude.{IsNone, IfSome, ◌↔◌};
 ghost use Rattle.spec_words.specs.Bits.{is_set, spelled};
 ghost use Rattle.bit_pack.specs.Queue.{bits_of_bytes, ring};
 
@@ -90,7 +91,8 @@ fn pop_whole(bytes: &[u8], first: usize) -> (u8, usize)
     requires some { 0 < length bytes.now }
     requires first { first ≤ length bytes.now }
     ensures within { result.1 ≤ length bytes.now }
-    ensures popped { (count : ℕ) → count < length bytes.now → ring bytes.now first (count + 1) ≡ result.0 ∷ ring bytes.now result.1 count }
+    ensures popped { (count : ℕ) → count < length bytes.now → ring bytes.now first (count + 1) ≡ result.0
+        ∷ ring bytes.now result.1 count }
 {
     if first == bytes.len() {
         (bytes[0], 1)
@@ -103,7 +105,8 @@ fn pop_whole(bytes: &[u8], first: usize) -> (u8, usize)
 fn copy_part(bytes: &[u8], first: usize, to: &mut [u8])
     requires room { first + length to.old ≤ length bytes.now }
     ensures size { length to.new ≡ length to.old }
-    ensures popped { (count : ℕ) → length to.old ≤ count → ring bytes.now first count ≡ to.new ++ ring bytes.now (first + length to.old) (count - length to.old) }
+    ensures popped { (count : ℕ) → length to.old ≤ count → ring bytes.now first count ≡ to.new
+        ++ ring bytes.now (first + length to.old) (count - length to.old) }
 {
     to.copy_from_slice(&bytes[first..first + to.len()]);
 }
@@ -214,7 +217,8 @@ impl<const N: usize> BitBuf<N> {
         }
     }
 
-    /// Takes the first bits out and writes them as bytes, the first one of each the most significant. As many must wait as
+    /// Takes the first bits out and writes them as bytes, the first one of each the most significant. As many must wait
+    /// as
     /// the bytes have.
     pub fn take_bytes(&mut self, to: &mut [u8])
         requires { 8 * length to.old ≤ length self.old }

@@ -8,4 +8,5 @@ use Rattle.cell_equal.specs.Equal.{equalised_bytes}
 
 -- the bytes of symbol n after correction, from its bytes before
 unfoldable pub equalised_symbol : Mode → ℕ → List ℕ → List ℕ
-equalised_symbol mode n bytes = equalised_bytes mode (n % 68) (cells_from bytes (carriers mode)) (weights_from bytes (carriers mode))
+equalised_symbol mode n bytes = equalised_bytes mode (n % 68) (cells_from bytes (carriers mode))
+    (weights_from bytes (carriers mode))

@@ -1,5 +1,6 @@
 // A cell divided by the gain of its carrier.
-ghost use Rattle.std.specs.Prelude.{◌≡◌, ℕ, ◌+◌, ◌*◌, ◌^◌, ◌<◌, ◌≤◌, nat_abs, min, ◌/◌, ◌==◌, if◌then◌else◌, pos, ◌+ℤ◌, ◌-ℤ◌, ◌*ℤ◌, ◌<ℤ◌, IsTrue};
+ghost use Rattle.std.specs.Prelude.{◌≡◌, ℕ, ◌+◌, ◌*◌, ◌^◌, ◌<◌, ◌≤◌, nat_abs, min, ◌/◌, ◌==◌, if◌then◌else◌, pos, ◌+ℤ◌};
+ghost use Rattle.std.specs.Prelude.{◌-ℤ◌, ◌*ℤ◌, ◌<ℤ◌, IsTrue};
 ghost use Rattle.cell_equal.specs.Equal.{power, nearest, value_near, divided, corrected};
 ghost use Rattle.cell_equal.specs.State.{IsSmall};
 

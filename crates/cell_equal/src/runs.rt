@@ -43,7 +43,8 @@ pub(crate) fn push_run(
     ensures around { IsAround mode l cells.now span.new.right span.new }
     ensures forward { from ≤ span.new.right }
     ensures within { span.new.right < carriers mode }
-    ensures bytes { (start : List ℕ) → to.old.items ≡ start ++ first_bytes mode l cells.now weights.now from → to.new.items ≡ start ++ first_bytes mode l cells.now weights.now (span.new.right + 1) }
+    ensures bytes { (start : List ℕ) → to.old.items ≡ start ++ first_bytes mode l cells.now weights.now from
+        → to.new.items ≡ start ++ first_bytes mode l cells.now weights.now (span.new.right + 1) }
     ensures len { vec_len to.new + 5 * from ≡ vec_len to.old + 5 * (span.new.right + 1) }
     ensures capacity { vec_capacity to.new ≡ vec_capacity to.old }
 {

@@ -31,11 +31,15 @@ align_command settings old new = record {
   LacksAtWork = λ limit file unread. ⊥;
   early_refusal = λ file. settings_refusal (file settings);
   header = λ file. header_by (settings_of (file settings));
-  work_refusal = λ limit file. option_and_then (λ s. align_refusal s (cells_in (file old))) (settings_of (file settings));
+  work_refusal = λ limit file. option_and_then (λ s. align_refusal s (cells_in (file old)))
+      (settings_of (file settings));
   most_taken = λ limit file. by_input (most_settings + 1) 0 0 (most_cells (settings_of (file settings)));
-  Comes = λ limit file port output. (s : Settings) × (settings_of (file settings) ≡ Some s) × FileComes s (cells_in (file old)) output;
-  Prints = λ limit file lines. (s : Settings) × (settings_of (file settings) ≡ Some s) × LinesCome s (cells_in (file old)) lines;
-  ComesSoFar = λ limit file unread port output. (s : Settings) × (settings_of (file settings) ≡ Some s) × FileSoFar s (file old) (unread ins.Cells) output;
+  Comes = λ limit file port output. (s : Settings) × (settings_of (file settings) ≡ Some s)
+      × FileComes s (cells_in (file old)) output;
+  Prints = λ limit file lines. (s : Settings) × (settings_of (file settings) ≡ Some s)
+      × LinesCome s (cells_in (file old)) lines;
+  ComesSoFar = λ limit file unread port output. (s : Settings) × (settings_of (file settings) ≡ Some s)
+      × FileSoFar s (file old) (unread ins.Cells) output;
   PrintsSoFar = λ limit file unread lines. LinesSoFar (settings_of (file settings)) (file old) (unread ins.Cells) lines;
   Own = λ limit file. AlignLaws (settings_of (file settings)) (file old);
 }

@@ -1,7 +1,8 @@
 -- A file of cells that begins anywhere, aligned to the super-frame after the one found (the cell file is this project's
 -- own; EN 300 744, 4.6.2: a frame signals the parameters of the next super-frame). `bytes` are those after the header
 -- of the file.
-use Rattle.std.specs.Prelude.{◌≡◌, ◌⊎◌, ℕ, ◌*◌, ◌<◌, ◌≤◌, nat_lt, if◌then◌else◌, List, [], ◌++◌, take, drop, Option, Some, None}
+use Rattle.std.specs.Prelude.{◌≡◌, ◌⊎◌, ℕ, ◌*◌, ◌<◌, ◌≤◌, nat_lt, if◌then◌else◌, List, [], ◌++◌, take, drop, Option}
+use Rattle.std.specs.Prelude.{Some, None}
 use Rattle.std.specs.Option.{option_or}
 use Rattle.mode_set.specs.declared.settings.Settings.{Settings}
 use Rattle.frame_build.specs.CellFile.{header}
@@ -64,12 +65,14 @@ pub record AreTaken (s : Settings) (file left taken : List ℕ) : Type 0 where
 
 -- the new file is the aligned file of their cells
 abbrev pub FileSoFar : Settings → List ℕ → List ℕ → List ℕ → Type 0
-FileSoFar s file left output = (taken : List ℕ) × AreTaken s file left taken × (output ≡ aligned_file s (cells_in taken) (place_of s (cells_in taken)))
+FileSoFar s file left output = (taken : List ℕ) × AreTaken s file left taken
+    × (output ≡ aligned_file s (cells_in taken) (place_of s (cells_in taken)))
 
 -- and the report has the lines of their place, if there is one; none if no settings are stated
 abbrev pub LinesSoFar : Option Settings → List ℕ → List ℕ → List ℕ → Type 0
 LinesSoFar None file left lines = lines ≡ []
-LinesSoFar (Some s) file left lines = (taken : List ℕ) × AreTaken s file left taken × (lines ≡ lines_at (place_of s (cells_in taken)))
+LinesSoFar (Some s) file left lines = (taken : List ℕ) × AreTaken s file left taken
+    × (lines ≡ lines_at (place_of s (cells_in taken)))
 
 -- the refusal past the limit of symbols, if any
 abbrev pub limit_refusal : Settings → List ℕ → Option Refusal
@@ -89,7 +92,8 @@ pub record AlignLaws (stated : Option Settings) (file : List ℕ) : Type 0 where
   -- The place is the least one by its definition.
   pub searches : (s : Settings) → stated ≡ Some s → Searches s (cells_in file)
   -- With the announced settings, the aligned cells have the same reception as the bytes from the next super-frame on.
-  pub received : (s : Settings) → stated ≡ Some s → (found : Found) → HoldsPlace s (cells_in file) found → (announced : Settings) → IsAnnounced found.word s announced
+  pub received : (s : Settings) → stated ≡ Some s → (found : Found) → HoldsPlace s (cells_in file) found
+      → (announced : Settings) → IsAnnounced found.word s announced
       → AreReceivedAlike announced (rest s (cells_in file) found) (aligned_cells s (cells_in file) (Some found))
   -- The names of the announced parameters are those of the settings file.
   pub words : AreSettingsWords

@@ -53,7 +53,9 @@ low_rate word = if is_flat word.hierarchy then [] else codes " rate_lp " ++ rate
 -- the line of the announced parameters
 abbrev pub announced_line : TpsWord → List ℕ
 announced_line word =
-    codes "announced constellation " ++ shape_word word.shape ++ codes " hierarchy " ++ hierarchy_word word.hierarchy ++ codes " rate_hp " ++ rate_word word.rate_hp ++ low_rate word ++ codes " guard " ++ guard_word word.guard ++ codes "\n"
+    codes "announced constellation " ++ shape_word word.shape ++ codes " hierarchy " ++ hierarchy_word word.hierarchy
+    ++ codes " rate_hp " ++ rate_word word.rate_hp ++ low_rate word ++ codes " guard " ++ guard_word word.guard
+    ++ codes "\n"
 
 -- the lines printed at the last symbol of a place
 abbrev pub found_lines : Found → List ℕ

@@ -30,7 +30,8 @@ PlaceIs s bytes (Some found) = IsFoundIn s bytes found
 
 -- the aligned file and the lines of a place
 abbrev pub GivesAt : Settings → List ℕ → Option Found → Written → Type 0
-GivesAt s bytes place given = (port : OutPort) → given port ≡ written_at (aligned_file s bytes place) (lines_at place) port
+GivesAt s bytes place given = (port : OutPort) → given port ≡ written_at (aligned_file s bytes place) (lines_at place)
+    port
 
 -- the output for a prefix is that of its place
 abbrev pub FirstGive : Settings → List ℕ → Written → Type 0
@@ -38,11 +39,14 @@ FirstGive s bytes given = (place : Option Found) × PlaceIs s bytes place × Giv
 
 -- and for all bytes, which must hold a place, also the closing line
 abbrev pub AllGive : Settings → List ℕ → Written → Type 0
-AllGive s bytes given = (found : Found) × IsFoundIn s bytes found × ((port : OutPort) → given port ≡ written_at (aligned_file s bytes (Some found)) (found_lines found ++ closing_at s bytes (Some found)) port)
+AllGive s bytes given = (found : Found) × IsFoundIn s bytes found
+    × ((port : OutPort) → given port ≡ written_at (aligned_file s bytes (Some found)) (found_lines found ++ closing_at s
+    bytes (Some found)) port)
 
 -- The cells are refused if they end without a place. The header was given before.
 abbrev pub RefusesAligning : Settings → List ℕ → List ℕ → Written → Refusal → Type 0
-RefusesAligning s bytes left given r = (r ≡ Cells NoPlace) × (left ≡ []) × HasNoPlace s bytes × GivesAt s bytes None given
+RefusesAligning s bytes left given r = (r ≡ Cells NoPlace) × (left ≡ []) × HasNoPlace s bytes
+    × GivesAt s bytes None given
 
 -- the work of `align`
 abbrev pub aligning_work : Settings → Work
@@ -63,7 +67,8 @@ pub record IsCopying (s : Settings) (found : Found) (bytes : List ℕ) (c : Copy
 -- the state of the work: searching, or after a place the symbols copied
 abbrev pub AligningStands : (Settings → List ℕ → Type 0) → Settings → Option Copying → List ℕ → Written → Type 0
 AligningStands searching s None bytes given = searching s bytes × HasNoPlace s bytes × GivesAt s bytes None given
-AligningStands searching s (Some c) bytes given = (found : Found) × IsFoundIn s bytes found × IsCopying s found bytes c × GivesAt s bytes (Some found) given
+AligningStands searching s (Some c) bytes given = (found : Found) × IsFoundIn s bytes found × IsCopying s found bytes c
+    × GivesAt s bytes (Some found) given
 
 -- lines were appended to Report, or a prefix of them
 abbrev pub Appends : List ℕ → List ℕ → List ℕ → Result (Unit {0}) RunError → Type 0
@@ -72,9 +77,15 @@ Appends lines before after (Err r) = (r ≡ WriteFault) × (k : ℕ) × (after �
 
 -- only what is written to Report and the counts of write faults have changed
 abbrev pub ReportOnly : Meaning → Meaning → Type 0
-ReportOnly old new = new ≡ record old { report = record old.report { written = new.report.written }; write_faults = new.write_faults; report_faults = new.report_faults }
+ReportOnly old new = new ≡ record old {
+  report = record old.report { written = new.report.written };
+  write_faults =
+      new.write_faults;
+  report_faults = new.report_faults;
+}
 
 -- the work was done on the cells, or memory was lacking before a port was requested
 abbrev pub RunsOrLacks : Settings → List ℕ → List ℕ → Meaning → Meaning → ℕ → Type 0
 RunsOrLacks s old_name new_name old new status =
-    RunsCells (aligning_work s) s.max_symbols old_name (Some (header s.mode)) (cell_names new_name) old new status ⊎ ((status ≡ 7) × WritesText (refusal_text Memory) old new)
+    RunsCells (aligning_work s) s.max_symbols old_name (Some (header s.mode)) (cell_names new_name) old new status
+    ⊎ ((status ≡ 7) × WritesText (refusal_text Memory) old new)

@@ -25,7 +25,8 @@ fn write_found<'a, S: Station<'a>>(found: &Found, station: &mut S) -> Result<(),
     ensures cause { HasCause (S.meaning station.old) (S.meaning station.new) result }
     ensures later_report { (S.meaning station.old).report_faults ≤ (S.meaning station.new).report_faults }
     ensures others { ReportOnly (S.meaning station.old) (S.meaning station.new) }
-    ensures written { IsTrue (S.meaning station.old).tells → Appends (found_lines found.now) (S.meaning station.old).report.written (S.meaning station.new).report.written result }
+    ensures written { IsTrue (S.meaning station.old).tells → Appends (found_lines found.now) (S.meaning
+        station.old).report.written (S.meaning station.new).report.written result }
 {
     let place = place_line(found);
     let announced = announced_line(&found.word);
@@ -77,7 +78,8 @@ impl<'a, S: Station<'a>, T: PlaceSearch> SymbolWork<'a, S> for AligningWork<T> {
 
     ghost is_new = { λ x. (x.copying ≡ None) × T.stands x.search x.settings [] × (x.settings.mode ≡ T.mode) };
 
-    ghost stands = { λ x bytes given. (x.settings.mode ≡ T.mode) × AligningStands (T.stands x.search) x.settings x.copying bytes given };
+    ghost stands = { λ x bytes given. (x.settings.mode ≡ T.mode)
+        × AligningStands (T.stands x.search) x.settings x.copying bytes given };
 
     fn begin(&mut self, station: &mut S) -> Result<(), RunError> {
         write_some(OutPort::Cells, &header(self.settings.mode), station)

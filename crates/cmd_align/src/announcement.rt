@@ -1,7 +1,9 @@
 // The lines of a place.
 ghost use Rattle.std.specs.Prelude.{◌≡◌, ◌≤◌, ◌+◌, ◌++◌, length};
 ghost use Rattle.arrayvec.specs.ArrayString.{array_string_len};
-ghost use Rattle.cmd_align.specs.Announcement.{announced_line as line_of_word, guard_word as guard_of, hierarchy_word as hierarchy_of, low_rate, rate_word as rate_of, shape_word as shape_of};
+ghost use Rattle.cmd_align.specs.Announcement.{announced_line as line_of_word, guard_word as guard_of};
+ghost use Rattle.cmd_align.specs.Announcement.{hierarchy_word as hierarchy_of, low_rate, rate_word as rate_of};
+ghost use Rattle.cmd_align.specs.Announcement.{shape_word as shape_of};
 
 use mode_set::{Guard, Hierarchy, Rate, Shape};
 use rx_report::Line;

@@ -32,7 +32,9 @@ fn align_by<'a, T: PlaceSearch + Drop, S: Station<'a>>(
     requires mode { settings.now.mode ≡ T.mode }
     requires size { length symbol.old ≡ symbol_length settings.now }
     requires ready { IsReady (cell_names new_cells.now) (S.meaning station.old) }
-    ensures { RunsCells (aligning_work settings.now) settings.now.max_symbols old_cells.now (Some (header_of settings.now.mode)) (cell_names new_cells.now) (S.meaning station.old) (S.meaning station.new) result }
+    ensures { RunsCells (aligning_work settings.now) settings.now.max_symbols old_cells.now
+        (Some (header_of settings.now.mode)) (cell_names new_cells.now) (S.meaning station.old) (S.meaning station.new)
+        result }
 {
     let mut work = AligningWork {
         settings: *settings,
@@ -61,7 +63,8 @@ fn align_in<'a, M: Carriers, S: Station<'a>>(
 ) -> u8
     requires mode { settings.now.mode ≡ M.MODE }
     requires ready { IsReady (cell_names new_cells.now) (S.meaning station.old) }
-    ensures { RunsOrLacks settings.now old_cells.now new_cells.now (S.meaning station.old) (S.meaning station.new) result }
+    ensures { RunsOrLacks settings.now old_cells.now new_cells.now (S.meaning station.old) (S.meaning station.new)
+        result }
 {
     let Ok(mut symbol) = vec![in alloc; 0u8; 5 * M::K as usize] else {
         return refuse(&Refusal::Memory, station);
@@ -82,7 +85,8 @@ fn align_accepted<'a, S: Station<'a>>(
     station: &mut S,
 ) -> u8
     requires ready { IsReady (cell_names new_cells.now) (S.meaning station.old) }
-    ensures { RunsOrLacks settings.now old_cells.now new_cells.now (S.meaning station.old) (S.meaning station.new) result }
+    ensures { RunsOrLacks settings.now old_cells.now new_cells.now (S.meaning station.old) (S.meaning station.new)
+        result }
 {
     match settings.mode {
         Mode::M2k => align_in::<Mode2k, S>(alloc, settings, old_cells, new_cells, station),
@@ -109,7 +113,8 @@ pub fn align<'a, S: Station<'a>>(
     station: &mut S,
 ) -> u8
     requires fresh { IsFresh (S.meaning station.old) }
-    ensures { Run (align_command settings.now old_cells.now new_cells.now) limits.now.packets (S.meaning station.old) (S.meaning station.new) result }
+    ensures { Run (align_command settings.now old_cells.now new_cells.now) limits.now.packets (S.meaning station.old)
+        (S.meaning station.new) result }
 {
     reception::laws::symbols();
     tune_in::more_bytes();

@@ -43,7 +43,9 @@ impl Copying {
         ensures takes { (s : AnySettings) (found : AnyFound) (bytes : List ℕ) (given : Written) → size ≡ symbol_length s
             → IsCopying s found bytes self.old → GivesAt s bytes (Some found) given
             → tail s bytes ≡ 0 → length piece.now ≤ size
-            → Does (λ after. IsCopying s found (bytes ++ piece.now) self.new) (GivesAt s (bytes ++ piece.now) (Some found)) (λ r. ⊥) given (S.meaning station.old) (S.meaning station.new) result }
+            → Does (λ after. IsCopying s found (bytes ++ piece.now) self.new)
+            (GivesAt s (bytes ++ piece.now) (Some found)) (λ r. ⊥) given (S.meaning station.old)
+            (S.meaning station.new) result }
     {
         reception::laws::symbols();
         if self.skip > 0 {

@@ -1,5 +1,6 @@
 -- A command with its arguments: the files that it reads and writes, and their contents.
-use Rattle.std.specs.Prelude.{◌==◌, ◌||◌, ℕ, Bool, false, IsTrue, List, [], ◌∷◌, Option, None, Some, is_some, if◌then◌else◌}
+use Rattle.std.specs.Prelude.{◌==◌, ◌||◌, ℕ, Bool, false, IsTrue, List, [], ◌∷◌, Option, None, Some, is_some}
+use Rattle.std.specs.Prelude.{if◌then◌else◌}
 use Rattle.std.specs.Option.{option_or}
 use Rattle.station_core.specs.Meaning.{Meaning, source_at}
 use Rattle.station_core.specs.declared.ports.InPort.{InPort}
@@ -69,7 +70,8 @@ input_file file c port = named file (c.reads port)
 
 -- the refusal of a run without faults: of the settings, then of the header, then of the work
 abbrev pub refusal_of : ℕ → Files → Command → Option Refusal
-refusal_of limit file c = option_or (c.early_refusal file) (option_or (header_refusal (c.header file) (input_file file c Cells)) (c.work_refusal limit file))
+refusal_of limit file c = option_or (c.early_refusal file) (option_or
+    (header_refusal (c.header file) (input_file file c Cells)) (c.work_refusal limit file))
 
 -- the bytes left to read at an input; all of them if it was not opened
 abbrev pub unread : Command → Meaning → Unread

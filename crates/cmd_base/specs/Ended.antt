@@ -8,7 +8,8 @@ use Rattle.station_core.specs.declared.ports.InPort.TheVariants as ins
 use Rattle.station_core.specs.declared.ports.OutPort.{OutPort}
 use Rattle.station_core.specs.declared.ports.OutPort.TheVariants as outs
 use Rattle.cmd_base.specs.declared.refusal.Refusal.{Refusal}
-use Rattle.cmd_base.specs.declared.refusal.Refusal.TheVariants.{Usage, Settings, ReadFault, WriteFault, NotSync, Memory, Limit, Cells}
+use Rattle.cmd_base.specs.declared.refusal.Refusal.TheVariants.{Usage, Settings, ReadFault, WriteFault, NotSync, Memory}
+use Rattle.cmd_base.specs.declared.refusal.Refusal.TheVariants.{Limit, Cells}
 use Rattle.cmd_base.specs.declared.refusal.CellsRefusal.TheVariants.{Header, NoPlace, AnnouncedForm}
 use Rattle.cmd_base.specs.Header.{IsHeaderTaken}
 use Rattle.cmd_base.specs.Command.{Command, Files, IsInput, IsOutput, is_among, refusal_of, input_file, unread}
@@ -24,7 +25,8 @@ IsWriteFault c limit old mid = Rose old.write_faults mid.write_faults
 
 -- A fault is only reported if its count rose. After a refusal an output may fail to close, and is counted.
 abbrev pub IsCaused : Command → ℕ → Meaning → Meaning → Option Refusal → Type 0
-IsCaused c limit old mid None = (mid.read_faults ≡ old.read_faults) × (mid.write_faults ≡ old.write_faults) × (mid.close_faults ≡ old.close_faults)
+IsCaused c limit old mid None = (mid.read_faults ≡ old.read_faults) × (mid.write_faults ≡ old.write_faults)
+    × (mid.close_faults ≡ old.close_faults)
 IsCaused c limit old mid (Some ReadFault) = Rose old.read_faults mid.read_faults
 IsCaused c limit old mid (Some WriteFault) = AreReadsKept old mid × IsWriteFault c limit old mid
 IsCaused c limit old mid (Some Usage) = mid.read_faults ≡ old.read_faults
@@ -60,7 +62,8 @@ AreMade c m = (out : OutPort) → IsOutput c out → (sink_at out m).created ≡
 -- each output holds what the command defines for it, and Report its lines
 pub record Hold (c : Command) (limit : ℕ) (old mid : Meaning) : Type 0 where
   pub made : AreMade c mid
-  pub outputs : old.tells ≡ true → (out : OutPort) → IsOutput c out → c.Comes limit old.file out (sink_at out mid).written
+  pub outputs : old.tells ≡ true → (out : OutPort) → IsOutput c out
+      → c.Comes limit old.file out (sink_at out mid).written
   pub report : old.tells ≡ true → c.Prints limit old.file mid.report.written
 
 -- each output created holds the output for the bytes taken, and Report their lines
@@ -73,7 +76,8 @@ pub record HoldSoFar (c : Command) (limit : ℕ) (old mid : Meaning) : Type 0 wh
 pub record HoldFronts (c : Command) (limit : ℕ) (old mid : Meaning) : Type 0 where
   pub outputs : old.tells ≡ true → (out : OutPort) → IsOutput c out → (sink_at out mid).created ≡ true
       → (bytes : List ℕ) × c.Comes limit old.file out bytes × ((k : ℕ) × ((sink_at out mid).written ≡ take k bytes))
-  pub report : old.tells ≡ true → (lines : List ℕ) × c.Prints limit old.file lines × ((k : ℕ) × (mid.report.written ≡ take k lines))
+  pub report : old.tells ≡ true → (lines : List ℕ) × c.Prints limit old.file lines
+      × ((k : ℕ) × (mid.report.written ≡ take k lines))
 
 -- no file but the settings was requested, and nothing was written to Report
 pub record HoldNothing (old mid : Meaning) : Type 0 where
@@ -122,15 +126,20 @@ pub record Ended (c : Command) (limit : ℕ) (old mid : Meaning) (r : Option Ref
   pub sources : (port : InPort) → ((source_at port mid).asked ≡ None) ⊎ ((source_at port mid).asked ≡ c.reads port)
   pub sinks : (port : OutPort) → ((sink_at port mid).asked ≡ None) ⊎ ((sink_at port mid).asked ≡ c.writes port)
   pub settings_first : IsInput c ins.Settings → AsksSettingsAlone mid
-      ⊎ ((mid.settings.attached ≡ true) × (old.tells ≡ true → (mid.settings.left ≡ []) × (c.early_refusal old.file ≡ None)))
+      ⊎ ((mid.settings.attached ≡ true) × (old.tells ≡ true → (mid.settings.left ≡ []) ×
+      (c.early_refusal old.file ≡ None)))
   pub lp_behind_hp : (mid.lp.asked ≡ None) ⊎ (mid.hp.attached ≡ true)
-  pub outputs_behind_inputs : (out : OutPort) → ((sink_at out mid).asked ≡ None) ⊎ ((port : InPort) → IsInput c port → (source_at port mid).attached ≡ true)
+  pub outputs_behind_inputs : (out : OutPort) → ((sink_at out mid).asked ≡ None)
+      ⊎ ((port : InPort) → IsInput c port → (source_at port mid).attached ≡ true)
   pub unasked : (out : OutPort) → IsOutput c out → (sink_at out mid).asked ≡ None → IsUntouched (sink_at out mid)
-  pub outputs_behind_header : old.tells ≡ true → (out : OutPort) → ((sink_at out mid).asked ≡ None) ⊎ IsHeaderTaken (c.header old.file) (input_file old.file c ins.Cells) (unread c mid ins.Cells)
+  pub outputs_behind_header : old.tells ≡ true → (out : OutPort) → ((sink_at out mid).asked ≡ None)
+      ⊎ IsHeaderTaken (c.header old.file) (input_file old.file c ins.Cells) (unread c mid ins.Cells)
   pub lp_made_behind_hp : (mid.lp_out.asked ≡ None) ⊎ (mid.hp_out.created ≡ true)
-  pub work_behind_outputs : old.tells ≡ true → (port : InPort) → port ≢ ins.Settings → IsInput c port → IsUntaken c mid port ⊎ AreMade c mid
+  pub work_behind_outputs : old.tells ≡ true → (port : InPort) → port ≢ ins.Settings → IsInput c port
+      → IsUntaken c mid port ⊎ AreMade c mid
   pub taken : old.tells ≡ true → (port : InPort) → IsInput c port → (source_at port mid).attached ≡ true
-      → (k : ℕ) × (k ≤ c.most_taken limit old.file port) × ((source_at port mid).left ≡ drop k (input_file old.file c port))
+      → (k : ℕ) × (k ≤ c.most_taken limit old.file port) × ((source_at port mid).left ≡ drop k
+      (input_file old.file c port))
   pub opened : r ≡ None → (port : InPort) → IsInput c port → (source_at port mid).attached ≡ true
   pub read_out : r ≡ None → old.tells ≡ true → (port : InPort) → IsInput c port → (source_at port mid).left ≡ []
   pub closed : (out : OutPort) → IsOutput c out → (sink_at out mid).created ≡ true → (sink_at out mid).closed ≡ true

@@ -11,7 +11,12 @@ IsFrontOf text before after (Err refusal) = (k : ℕ) × (after ≡ before ++ ta
 
 -- lines are written to Report
 pub record WritesLines (text : List ℕ) (old new : Meaning) (result : Result (Unit {0}) Refusal) : Type 0 where
-  pub others : new ≡ record old { report = record old.report { written = new.report.written }; write_faults = new.write_faults; report_faults = new.report_faults }
+  pub others : new ≡ record old {
+    report = record old.report { written = new.report.written };
+    write_faults
+        = new.write_faults;
+    report_faults = new.report_faults;
+  }
   pub later_report : old.report_faults ≤ new.report_faults
   pub written : old.tells ≡ true → IsFrontOf text old.report.written new.report.written result
 

@@ -1,5 +1,7 @@
 -- The whole packets of a transport file, and the first one that a run rejects.
-use Rattle.std.specs.Prelude.{◌≡◌, ◌<◌, ◌+◌, ◌*◌, ◌/◌, ◌%◌, ◌==◌, ℕ, zero, suc, Bool, not, List, [], ◌∷◌, ◌++◌, length, take, drop, slice_index, nat_lt, ◌&&◌, true, Option, None, Some, codes, decimal, if◌then◌else◌}
+use Rattle.std.specs.Prelude.{◌≡◌, ◌<◌, ◌+◌, ◌*◌, ◌/◌, ◌%◌, ◌==◌, ℕ, zero, suc, Bool, not, List, [], ◌∷◌, ◌++◌, length}
+use Rattle.std.specs.Prelude.{take, drop, slice_index, nat_lt, ◌&&◌, true, Option, None, Some, codes, decimal}
+use Rattle.std.specs.Prelude.{if◌then◌else◌}
 use Rattle.spec_words.specs.Words.{first_below}
 use Rattle.mode_set.specs.declared.modes.Stream.{Stream}
 use Rattle.mode_set.specs.declared.modes.Stream.TheVariants.{Hp}
@@ -65,7 +67,8 @@ most_packets_taken limit input = 188 * (accepted limit input + 1)
 
 -- the closing line of a transport file
 abbrev pub packets_line : Stream → Counts → List ℕ
-packets_line σ counts = stream_text σ ++ codes " packets " ++ decimal counts.packets ++ codes " tail " ++ decimal counts.tail ++ codes "\n"
+packets_line σ counts = stream_text σ ++ codes " packets " ++ decimal counts.packets ++ codes " tail "
+    ++ decimal counts.tail ++ codes "\n"
 
 -- the closing line of a command with one transport file
 abbrev pub closing_line : Counts → List ℕ

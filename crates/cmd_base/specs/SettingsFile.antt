@@ -3,7 +3,8 @@ use Rattle.std.specs.Prelude.{ℕ, List, length, nat_lt, if◌then◌else◌, Op
 use Rattle.mode_set.specs.declared.error.SettingsError.{SettingsError}
 use Rattle.mode_set.specs.declared.error.SettingsError.TheVariants as error
 use Rattle.mode_set.specs.Document.{refusal}
-use Rattle.cmd_base.specs.declared.refusal.SettingsRefusal.TheVariants.{TooLong, NotToml, Unknown, Missing, Value, Clash}
+use Rattle.cmd_base.specs.declared.refusal.SettingsRefusal.TheVariants.{TooLong, NotToml, Unknown, Missing, Value}
+use Rattle.cmd_base.specs.declared.refusal.SettingsRefusal.TheVariants.{Clash}
 use Rattle.cmd_base.specs.declared.refusal.Refusal.{Refusal}
 use Rattle.cmd_base.specs.declared.refusal.Refusal.TheVariants.{Settings, Memory}
 
@@ -22,4 +23,5 @@ refused_as error.Memory = Memory
 
 -- the refusal of a settings file, if any: its length is checked before its document
 abbrev pub settings_refusal : List ℕ → Option Refusal
-settings_refusal bytes = if nat_lt most_settings (length bytes) then Some (Settings TooLong) else option_map refused_as (refusal bytes)
+settings_refusal bytes = if nat_lt most_settings (length bytes) then Some (Settings TooLong) else option_map refused_as
+    (refusal bytes)

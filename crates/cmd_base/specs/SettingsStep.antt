@@ -14,7 +14,8 @@ pub record AsksSettings (name : List ℕ) (old new : Meaning) : Type 0 where
   pub others : new ≡ record old { settings = new.settings; read_faults = new.read_faults }
   pub later : old.read_faults ≤ new.read_faults
   pub asked : new.settings ≡ old.settings ⊎ (new.settings.asked ≡ Some name)
-  pub read : old.tells ≡ true → new.settings.attached ≡ true → (k : ℕ) × (k ≤ most_settings + 1) × (new.settings.left ≡ drop k (old.file name))
+  pub read : old.tells ≡ true → new.settings.attached ≡ true → (k : ℕ) × (k ≤ most_settings + 1)
+      × (new.settings.left ≡ drop k (old.file name))
 
 -- settings are rejected only for a reason of their own or lack of memory
 abbrev pub IsCheck : Result TheSettings Refusal → Type 0
@@ -25,7 +26,8 @@ IsCheck (Err refusal) = ⊥
 
 -- these bytes are the settings file, which is accepted or rejected
 abbrev pub Checks : List ℕ → Result TheSettings Refusal → Type 0
-Checks bytes (Ok settings) = (length bytes ≤ most_settings) × (settings_refusal bytes ≡ None) × IsStatedBy settings bytes
+Checks bytes (Ok settings) = (length bytes ≤ most_settings) × (settings_refusal bytes ≡ None)
+    × IsStatedBy settings bytes
 Checks bytes (Err Memory) = ⊤
 Checks bytes (Err (Settings reason)) = settings_refusal bytes ≡ Some (Settings reason)
 Checks bytes (Err refusal) = ⊥

@@ -6,7 +6,8 @@ use Rattle.mode_set.specs.Keys.{key_text}
 use Rattle.cmd_base.specs.Command.{Command, Files, refusal_of}
 use Rattle.cmd_base.specs.declared.refusal.SettingsRefusal.{SettingsRefusal}
 use Rattle.cmd_base.specs.declared.refusal.SettingsRefusal.TheVariants as settings
-use Rattle.cmd_base.specs.declared.refusal.Refusal.TheVariants.{Usage, Settings, ReadFault, WriteFault, NotSync, Memory, Limit, Cells}
+use Rattle.cmd_base.specs.declared.refusal.Refusal.TheVariants.{Usage, Settings, ReadFault, WriteFault, NotSync, Memory}
+use Rattle.cmd_base.specs.declared.refusal.Refusal.TheVariants.{Limit, Cells}
 use Rattle.cmd_base.specs.declared.refusal.CellsRefusal.{CellsRefusal}
 use Rattle.cmd_base.specs.declared.refusal.CellsRefusal.TheVariants as cells
 

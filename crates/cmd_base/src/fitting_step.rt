@@ -5,8 +5,8 @@ ghost use Rattle.cmd_base.specs.FittingStep.{Accepts};
 ghost use Rattle.cmd_base.specs.SettingsStep.{AsksSettings};
 
 use crate::settings_step::read_settings;
-use mode_set::Settings;
 use crate::{Refusal, SettingsRefusal};
+use mode_set::Settings;
 use station_core::Station;
 use std::alloc::Global;
 

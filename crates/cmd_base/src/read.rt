@@ -15,10 +15,14 @@ pub fn fill<'a, S: Station<'a>>(
 ) -> Result<usize, Failed>
     requires { (source_at port (S.meaning station.old)).attached ≡ true }
     ensures bound { IfOk result (λ n. n ≤ length bytes.new) }
-    ensures ok { IfOk result (λ n. S.meaning station.new ≡ with_source port (read_source n (source_at port (S.meaning station.old))) (S.meaning station.old)) }
-    ensures bytes { IfOk result (λ n. IsTrue (S.meaning station.old).tells → ReadsFront (source_at port (S.meaning station.old)).left (length bytes.old) n bytes.new) }
-    ensures err { OnErr result ((n : ℕ) × (n < length bytes.old) × (IsTrue (S.meaning station.old).tells → n ≤ length (source_at port (S.meaning station.old)).left)
-        × (S.meaning station.new ≡ with_read_faults (S.meaning station.new).read_faults (with_source port (read_source n (source_at port (S.meaning station.old))) (S.meaning station.old)))) }
+    ensures ok { IfOk result (λ n. S.meaning station.new ≡ with_source port (read_source n
+        (source_at port (S.meaning station.old))) (S.meaning station.old)) }
+    ensures bytes { IfOk result (λ n. IsTrue (S.meaning station.old).tells
+        → ReadsFront (source_at port (S.meaning station.old)).left (length bytes.old) n bytes.new) }
+    ensures err { OnErr result ((n : ℕ) × (n < length bytes.old)
+        × (IsTrue (S.meaning station.old).tells → n ≤ length (source_at port (S.meaning station.old)).left)
+        × (S.meaning station.new ≡ with_read_faults (S.meaning station.new).read_faults
+        (with_source port (read_source n (source_at port (S.meaning station.old))) (S.meaning station.old)))) }
     ensures cause { OnErr result (Rose (S.meaning station.old).read_faults (S.meaning station.new).read_faults) }
     ensures later { (S.meaning station.old).read_faults ≤ (S.meaning station.new).read_faults }
 {

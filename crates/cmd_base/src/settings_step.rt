@@ -7,8 +7,8 @@ ghost use Rattle.cmd_base.specs.Reading.{ReadsFront};
 ghost use Rattle.cmd_base.specs.SettingsStep.{AsksSettings, IsCheck, Checks, ReadsSettings};
 
 use crate::read::fill;
-use mode_set::Settings;
 use crate::{Refusal, SettingsRefusal};
+use mode_set::Settings;
 use station_core::{Failed, InPort, Station};
 use std::alloc::Global;
 
@@ -29,8 +29,10 @@ fn read_bytes<'a, S: Station<'a>>(
     ensures faultless { OnOk result ((S.meaning station.new).read_faults ≡ (S.meaning station.old).read_faults) }
     ensures asked { OnOk result ((S.meaning station.new).settings.asked ≡ Some name.now) }
     ensures attached { OnOk result ((S.meaning station.new).settings.attached ≡ true) }
-    ensures left { IfOk result (λ n. (S.meaning station.new).settings.left ≡ drop n ((S.meaning station.old).file name.now)) }
-    ensures bytes { IfOk result (λ n. IsTrue (S.meaning station.old).tells → ReadsFront ((S.meaning station.old).file name.now) (most_settings + 1) n bytes.new) }
+    ensures left { IfOk result (λ n. (S.meaning station.new).settings.left
+        ≡ drop n ((S.meaning station.old).file name.now)) }
+    ensures bytes { IfOk result (λ n. IsTrue (S.meaning station.old).tells
+        → ReadsFront ((S.meaning station.old).file name.now) (most_settings + 1) n bytes.new) }
     ensures fault { OnErr result (Rose (S.meaning station.old).read_faults (S.meaning station.new).read_faults) }
 {
     station.attach(InPort::Settings, name)?;

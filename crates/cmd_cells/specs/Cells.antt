@@ -1,6 +1,7 @@
 -- The work on cells: the bytes left, the output written, and how far it got. `file` is the bytes that the work may
 -- take, `start` is the state of the station before it.
-use Rattle.std.specs.Prelude.{◌≡◌, ◌⊎◌, ℕ, ◌+◌, ◌*◌, ◌<◌, ◌≤◌, Bool, true, false, List, [], ◌++◌, length, drop, Result, Ok, Err}
+use Rattle.std.specs.Prelude.{◌≡◌, ◌⊎◌, ℕ, ◌+◌, ◌*◌, ◌<◌, ◌≤◌, Bool, true, false, List, [], ◌++◌, length, drop, Result}
+use Rattle.std.specs.Prelude.{Ok, Err}
 use Rattle.station_core.specs.Meaning.{Meaning}
 use Rattle.cmd_base.specs.declared.refusal.Refusal.{Refusal}
 use Rattle.cmd_cells.specs.declared.run_error.RunError.{RunError}
@@ -29,7 +30,8 @@ abbrev pub TakesAtMost : ℕ → Meaning → Meaning → Type 0
 TakesAtMost n old new = old.tells ≡ true → (k : ℕ) × (k ≤ n) × (new.cells.left ≡ drop k old.cells.left)
 
 -- the state of the work matches the bytes taken, and its output was written
-pub record IsWorking (w : Work) (standing : List ℕ → Written → Type 0) (file : List ℕ) (start m : Meaning) (bytes : List ℕ) (given : Written) : Type 0 where
+pub record IsWorking (w : Work) (standing : List ℕ → Written → Type 0) (file : List ℕ) (start m : Meaning)
+    (bytes : List ℕ) (given : Written) : Type 0 where
   pub stands : standing bytes given
   pub gives : w.Gives bytes given
   pub are : m.tells ≡ true → file ≡ bytes ++ m.cells.left
@@ -102,20 +104,26 @@ Stopped w most file start m Limit = IsPast w most file start m
 Stopped w most file start m (stops.Work r) = IsRefused w most file start m r
 
 -- After n symbols one more was taken, or the rest of the cells, or the work stopped.
-abbrev pub Next : Work → (List ℕ → Written → Type 0) → ℕ → List ℕ → ℕ → Meaning → Meaning → Result Bool RunError → Type 0
+abbrev pub Next : Work → (List ℕ → Written → Type 0) → ℕ → List ℕ → ℕ → Meaning → Meaning → Result Bool RunError
+    → Type 0
 Next w standing most file n start m (Ok true) =
-    (bytes : List ℕ) × (given : Written) × IsWorking w standing file start m bytes given × (length bytes ≡ (n + 1) * w.size)
+    (bytes : List ℕ) × (given : Written) × IsWorking w standing file start m bytes given
+    × (length bytes ≡ (n + 1) * w.size)
 Next w standing most file n start m (Ok false) =
-    (bytes : List ℕ) × (given : Written) × IsWorking w standing file start m bytes given × (symbols w.size bytes ≤ n) × (m.tells ≡ true → m.cells.left ≡ [])
+    (bytes : List ℕ) × (given : Written) × IsWorking w standing file start m bytes given × (symbols w.size bytes ≤ n)
+    × (m.tells ≡ true → m.cells.left ≡ [])
 Next w standing most file n start m (Err stop) = m.tells ≡ true → Stopped w most file start m stop
 
 -- All cells were taken, within the limit, or the work stopped.
-abbrev pub TakesAll : Work → (List ℕ → Written → Type 0) → ℕ → List ℕ → Meaning → Meaning → Result (Unit {0}) RunError → Type 0
+abbrev pub TakesAll : Work → (List ℕ → Written → Type 0) → ℕ → List ℕ → Meaning → Meaning → Result (Unit {0}) RunError
+    → Type 0
 TakesAll w standing most file start m (Ok u) =
-    (bytes : List ℕ) × (given : Written) × IsWorking w standing file start m bytes given × (symbols w.size bytes ≤ most) × (m.tells ≡ true → m.cells.left ≡ [])
+    (bytes : List ℕ) × (given : Written) × IsWorking w standing file start m bytes given × (symbols w.size bytes ≤ most)
+    × (m.tells ≡ true → m.cells.left ≡ [])
 TakesAll w standing most file start m (Err stop) = m.tells ≡ true → Stopped w most file start m stop
 
 -- The whole work.
 abbrev pub Works : Work → ℕ → List ℕ → Meaning → Meaning → Result (Unit {0}) RunError → Type 0
-Works w most file start m (Ok u) = m.tells ≡ true → (m.cells.left ≡ []) × (symbols w.size file ≤ most) × IsWhole w file start m
+Works w most file start m (Ok u) = m.tells ≡ true → (m.cells.left ≡ []) × (symbols w.size file ≤ most)
+    × IsWhole w file start m
 Works w most file start m (Err stop) = m.tells ≡ true → Stopped w most file start m stop

@@ -30,7 +30,8 @@ pub record SettingsDone (c : Command) (limit : ℕ) (name : List ℕ) (start : M
   pub asked : at.asked ≡ Some name
   pub attached : at.attached ≡ true
   pub left : start.tells ≡ true → at.left ≡ []
-  pub read : start.tells ≡ true → (k : ℕ) × (k ≤ c.most_taken limit start.file ins.Settings) × (at.left ≡ drop k (start.file name))
+  pub read : start.tells ≡ true → (k : ℕ) × (k ≤ c.most_taken limit start.file ins.Settings)
+      × (at.left ≡ drop k (start.file name))
   pub accepted : start.tells ≡ true → c.early_refusal start.file ≡ None
 
 -- each output is what was given there, and Report has its lines
@@ -66,32 +67,39 @@ MayRefuse c (refusals.Cells AnnouncedForm) = ⊤
 -- The output before a refusal is what the command defines, and the refusal is the command's. At lack of memory nothing
 -- was given, and the files and unread bytes allow it.
 abbrev pub ComesRefused : Command → ℕ → Files → Unread → Written → Refusal → Type 0
-ComesRefused c limit file unread given refusals.Memory = c.LacksAtWork limit file unread × ((port : OutPort) → given port ≡ [])
+ComesRefused c limit file unread given refusals.Memory = c.LacksAtWork limit file unread
+    × ((port : OutPort) → given port ≡ [])
 ComesRefused c limit file unread given refusals.Usage = ⊥
 ComesRefused c limit file unread given (refusals.Settings reason) = ⊥
 ComesRefused c limit file unread given refusals.ReadFault = ⊥
 ComesRefused c limit file unread given refusals.WriteFault = ⊥
 ComesRefused c limit file unread given (refusals.NotSync stream n) = ⊥
 ComesRefused c limit file unread given (refusals.Limit n) = ⊥
-ComesRefused c limit file unread given (refusals.Cells reason) = Come c limit file given × (c.work_refusal limit file ≡ Some (refusals.Cells reason))
+ComesRefused c limit file unread given (refusals.Cells reason) = Come c limit file given
+    × (c.work_refusal limit file ≡ Some (refusals.Cells reason))
 
 -- The outputs of the command are those of the work on the cells, `bytes` after their header.
 pub record ComesTo (c : Command) (limit : ℕ) (file : Files) (w : Work) (most : ℕ) (bytes : List ℕ) : Type 0 where
   -- all cells, if they are within the limit
-  pub whole : (given : Written) → symbols w.size bytes ≤ most → w.Ends bytes given → Come c limit file given × (c.work_refusal limit file ≡ None)
+  pub whole : (given : Written) → symbols w.size bytes ≤ most → w.Ends bytes given → Come c limit file given
+      × (c.work_refusal limit file ≡ None)
   -- the cells within the limit, if there are more
-  pub past : (given : Written) → most < symbols w.size bytes → w.Gives (within_limit most w.size bytes) given → Come c limit file given × (c.work_refusal limit file ≡ Some (Limit most))
+  pub past : (given : Written) → most < symbols w.size bytes → w.Gives (within_limit most w.size bytes) given
+      → Come c limit file given × (c.work_refusal limit file ≡ Some (Limit most))
   -- the cells up to a refusal by the work
-  pub refused : (unread : Unread) (taken : List ℕ) (given : Written) (r : Refusal) → bytes ≡ taken ++ unread ins.Cells → symbols w.size taken ≤ most → w.Reasons r → w.Refuses taken (unread ins.Cells) given r
+  pub refused : (unread : Unread) (taken : List ℕ) (given : Written) (r : Refusal) → bytes ≡ taken ++ unread ins.Cells
+      → symbols w.size taken ≤ most → w.Reasons r → w.Refuses taken (unread ins.Cells) given r
       → ComesRefused c limit file unread given r
   -- the cells up to a failed read
-  pub so_far : (unread : Unread) (taken : List ℕ) (given : Written) → bytes ≡ taken ++ unread ins.Cells → symbols w.size taken ≤ most → w.Gives taken given → ComeSoFar c limit file unread given
+  pub so_far : (unread : Unread) (taken : List ℕ) (given : Written) → bytes ≡ taken ++ unread ins.Cells
+      → symbols w.size taken ≤ most → w.Gives taken given → ComeSoFar c limit file unread given
   -- the output of a prefix is a prefix of the output
   pub begun : (given : Written) → GivenUpTo w most bytes given → Continues c limit file given
   pub first : (given : Written) × w.Gives [] given
 
 -- a command on cells that must begin with this header, if any
-pub record CellCommand (c : Command) (limit : ℕ) (settings cells : List ℕ) (header : Option (List ℕ)) (names : Names) (w : Work) (most : ℕ) (start : Meaning) : Type 0 where
+pub record CellCommand (c : Command) (limit : ℕ) (settings cells : List ℕ) (header : Option (List ℕ)) (names : Names)
+    (w : Work) (most : ℕ) (start : Meaning) : Type 0 where
   pub reads : (port : InPort) → c.reads port ≡ reads_at settings cells port
   pub writes : (port : OutPort) → c.writes port ≡ names port
   pub header_is : start.tells ≡ true → c.header start.file ≡ header
@@ -102,9 +110,11 @@ pub record CellCommand (c : Command) (limit : ℕ) (settings cells : List ℕ) (
   pub write_fault : is_among 6 c.statuses ≡ true
   pub unheaded : is_some header ≡ true → is_among 9 c.statuses ≡ true
   pub limit_passed : is_among 8 c.statuses ≡ true
-  pub most_taken : start.tells ≡ true → header_size header + (most + 1) * w.size ≤ c.most_taken limit start.file ins.Cells
+  pub most_taken : start.tells ≡ true → header_size header + (most + 1) * w.size ≤ c.most_taken limit start.file
+      ins.Cells
   pub comes : start.tells ≡ true → ComesTo c limit start.file w most (behind_header header (start.file cells))
   -- if reading stops within the header, no line is printed
-  pub unread : start.tells ≡ true → (unread : Unread) → TakesHeader header (start.file cells) (unread ins.Cells) → c.PrintsSoFar limit start.file unread []
+  pub unread : start.tells ≡ true → (unread : Unread) → TakesHeader header (start.file cells) (unread ins.Cells)
+      → c.PrintsSoFar limit start.file unread []
   pub its : (r : Refusal) → w.Reasons r → MayRefuse c r × (is_among (refusal_status r) c.statuses ≡ true)
   pub own : (file : Files) → c.Own limit file

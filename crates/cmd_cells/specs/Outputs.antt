@@ -1,6 +1,7 @@
 -- The outputs of a command that reads cells: created before the work, closed after it. `names` has the file written at
 -- each port, if any.
-use Rattle.std.specs.Prelude.{◌≡◌, ◌⊎◌, ℕ, Bool, true, false, List, [], Option, Some, None, is_some, if◌then◌else◌, Result, Ok, Err}
+use Rattle.std.specs.Prelude.{◌≡◌, ◌⊎◌, ℕ, Bool, true, false, List, [], Option, Some, None, is_some, if◌then◌else◌}
+use Rattle.std.specs.Prelude.{Result, Ok, Err}
 use Rattle.station_core.specs.Meaning.{Meaning, Sink, sink_at, IsUntouched}
 use Rattle.station_core.specs.declared.ports.OutPort.{OutPort}
 pub use Rattle.cmd_base.specs.Ports.{cell_names, stream_names}
@@ -21,7 +22,15 @@ made name = record { asked = Some name; created = true; closed = false; written 
 
 -- only sinks and the counts of failed writes and closes have changed
 abbrev pub SinksOnly : Meaning → Meaning → Type 0
-SinksOnly old new = new ≡ record old { cells_out = new.cells_out; hp_out = new.hp_out; lp_out = new.lp_out; bytes_out = new.bytes_out; write_faults = new.write_faults; close_faults = new.close_faults }
+SinksOnly old new = new ≡ record old {
+  cells_out = new.cells_out;
+  hp_out = new.hp_out;
+  lp_out = new.lp_out;
+  bytes_out =
+      new.bytes_out;
+  write_faults = new.write_faults;
+  close_faults = new.close_faults;
+}
 
 -- the outputs were created, LP after HP
 pub record AreMade (names : Names) (old new : Meaning) : Type 0 where
@@ -35,7 +44,8 @@ pub record AreMade (names : Names) (old new : Meaning) : Type 0 where
 pub record AreUnmade (names : Names) (old new : Meaning) : Type 0 where
   pub others : SinksOnly old new
   pub asked : (port : OutPort) → (sink_at port new ≡ sink_at port old) ⊎ ((sink_at port new).asked ≡ names port)
-  pub shut : (port : OutPort) → is_some (names port) ≡ true → (sink_at port new).created ≡ true → ((sink_at port new).closed ≡ true) × ((sink_at port new).written ≡ [])
+  pub shut : (port : OutPort) → is_some (names port) ≡ true → (sink_at port new).created ≡ true
+      → ((sink_at port new).closed ≡ true) × ((sink_at port new).written ≡ [])
   pub lp_behind : (new.lp_out ≡ old.lp_out) ⊎ (new.hp_out.created ≡ true)
 
 -- the outputs were created, or one was not
@@ -65,4 +75,7 @@ IsWriting (Err stop) = stop ≡ WriteFault
 
 -- LP is closed, if there are two streams
 abbrev pub ClosesLp : Bool → Meaning → Meaning → Type 0
-ClosesLp two old new = new ≡ record old { lp_out = if two then record old.lp_out { closed = true } else old.lp_out; close_faults = new.close_faults }
+ClosesLp two old new = new ≡ record old {
+  lp_out = if two then record old.lp_out { closed = true } else old.lp_out;
+  close_faults = new.close_faults;
+}

@@ -1,6 +1,7 @@
 -- The steps of a run on cells after its settings, each as a relation of the station before and after it. They imply the
 -- promise of the run.
-use Rattle.std.specs.Prelude.{◌≡◌, ◌⊎◌, ◌≤◌, ◌+◌, ◌*◌, ℕ, true, false, List, [], Option, Result, Ok, Err, Some, None, is_some}
+use Rattle.std.specs.Prelude.{◌≡◌, ◌⊎◌, ◌≤◌, ◌+◌, ◌*◌, ℕ, true, false, List, [], Option, Result, Ok, Err, Some, None}
+use Rattle.std.specs.Prelude.{is_some}
 use Rattle.station_core.specs.Meaning.{Meaning, IsUnasked, sink_at}
 use Rattle.station_core.specs.declared.ports.OutPort.{OutPort}
 use Rattle.station_core.specs.declared.ports.OutPort.TheVariants as outs
@@ -46,18 +47,22 @@ PortsOnly old new = new ≡ record old {
 
 -- and only these names were requested at the outputs
 abbrev pub AsksOutputs : Names → Meaning → Meaning → Type 0
-AsksOutputs names old new = (port : OutPort) → ((sink_at port new).asked ≡ (sink_at port old).asked) ⊎ ((sink_at port new).asked ≡ names port)
+AsksOutputs names old new = (port : OutPort) → ((sink_at port new).asked ≡ (sink_at port old).asked)
+    ⊎ ((sink_at port new).asked ≡ names port)
 
 -- an output was not created: nothing was taken of the cells, no output is open, and all are empty
 pub record IsUnmade (names : Names) (old new : Meaning) : Type 0 where
   pub cells : new.cells ≡ old.cells
-  pub shut : (port : OutPort) → is_some (names port) ≡ true → (sink_at port new).created ≡ true → ((sink_at port new).closed ≡ true) × ((sink_at port new).written ≡ [])
-  pub asked : (port : OutPort) → is_some (names port) ≡ true → (sink_at port new ≡ sink_at port old) ⊎ ((sink_at port new).asked ≡ names port)
+  pub shut : (port : OutPort) → is_some (names port) ≡ true → (sink_at port new).created ≡ true
+      → ((sink_at port new).closed ≡ true) × ((sink_at port new).written ≡ [])
+  pub asked : (port : OutPort) → is_some (names port) ≡ true → (sink_at port new ≡ sink_at port old)
+      ⊎ ((sink_at port new).asked ≡ names port)
   pub lp_behind : (new.lp_out ≡ old.lp_out) ⊎ (new.hp_out.created ≡ true)
   pub report : new.report ≡ old.report
 
 -- the outputs were created, the work was done as far as it went, and the outputs were closed
-pub record IsWorked (w : Work) (most : ℕ) (names : Names) (old new : Meaning) (result : Result (Unit {0}) RunError) : Type 0 where
+pub record IsWorked (w : Work) (most : ℕ) (names : Names) (old new : Meaning) (result : Result (Unit {0}) RunError) :
+    Type 0 where
   -- before the work
   pub start : Meaning
   pub tells : start.tells ≡ old.tells
@@ -73,7 +78,8 @@ pub record IsWorked (w : Work) (most : ℕ) (names : Names) (old new : Meaning) 
 
 -- an output was not created, or the work was done
 abbrev pub RanBehind : Work → ℕ → Names → Meaning → Meaning → Result (Unit {0}) RunError → Type 0
-RanBehind w most names old new result = ((result ≡ Err WriteFault) × IsUnmade names old new) ⊎ IsWorked w most names old new result
+RanBehind w most names old new result = ((result ≡ Err WriteFault) × IsUnmade names old new)
+    ⊎ IsWorked w most names old new result
 
 -- the status of the work: 0, or that of the reason why it stopped
 abbrev pub outcome_status : ℕ → Result (Unit {0}) RunError → ℕ
@@ -112,4 +118,5 @@ pub record RefusesCells (cells : List ℕ) (header : Option (List ℕ)) (old new
 abbrev pub RunsCells : Work → ℕ → List ℕ → Option (List ℕ) → Names → Meaning → Meaning → ℕ → Type 0
 RunsCells w most cells header names old new status =
     RefusesCells cells header old new status
-    ⊎ ((old.tells ≡ true → header_refusal header (old.file cells) ≡ None) × RunsBehind w most names (opened cells header old) new status)
+    ⊎ ((old.tells ≡ true → header_refusal header (old.file cells) ≡ None)
+    × RunsBehind w most names (opened cells header old) new status)

@@ -23,8 +23,10 @@ refusal_in most (Err stop) = Some (stop_refusal most stop)
 -- A fault is only reported if its count rose. If the work continues, no count has changed.
 abbrev pub HasCause : {T : Type 0} → Meaning → Meaning → Result T RunError → Type 0
 HasCause old new (Ok value) = (new.read_faults ≡ old.read_faults) × (new.write_faults ≡ old.write_faults)
-HasCause old new (Err ReadFault) = Rose old.read_faults new.read_faults × (old.read_faults ≤ new.read_faults) × (new.write_faults ≡ old.write_faults)
-HasCause old new (Err WriteFault) = (new.read_faults ≡ old.read_faults) × Rose old.write_faults new.write_faults × (old.write_faults ≤ new.write_faults)
+HasCause old new (Err ReadFault) = Rose old.read_faults new.read_faults × (old.read_faults ≤ new.read_faults)
+    × (new.write_faults ≡ old.write_faults)
+HasCause old new (Err WriteFault) = (new.read_faults ≡ old.read_faults) × Rose old.write_faults new.write_faults
+    × (old.write_faults ≤ new.write_faults)
 HasCause old new (Err Limit) = (new.read_faults ≡ old.read_faults) × (new.write_faults ≡ old.write_faults)
 HasCause old new (Err (Work refusal)) = (new.read_faults ≡ old.read_faults) × (new.write_faults ≡ old.write_faults)
 
@@ -34,15 +36,19 @@ abbrev pub Settles : Result (Unit {0}) RunError → Meaning → Meaning → Resu
 Settles (Ok u) old new settled = (settled ≡ Ok u) × (new ≡ old)
 Settles (Err stop) old new settled =
     ((settled ≡ Err stop) × (new ≡ flushed old))
-    ⊎ ((settled ≡ Err WriteFault) × Rose old.write_faults new.write_faults × (old.write_faults ≤ new.write_faults) × (new ≡ with_write_faults new.write_faults old))
+    ⊎ ((settled ≡ Err WriteFault) × Rose old.write_faults new.write_faults × (old.write_faults ≤ new.write_faults)
+    × (new ≡ with_write_faults new.write_faults old))
 
 -- The same after closing the outputs, which may fail and is counted. A write fault is reported if a write failed or,
 -- after complete work, if an output could not be closed. After another stop the outputs were flushed first.
 abbrev pub HasEndCause : {T : Type 0} → Type 0 → Meaning → Meaning → Result T RunError → Type 0
-HasEndCause whole old new (Ok value) = (new.read_faults ≡ old.read_faults) × (new.write_faults ≡ old.write_faults) × (new.close_faults ≡ old.close_faults)
-HasEndCause whole old new (Err ReadFault) = Rose old.read_faults new.read_faults × (old.read_faults ≤ new.read_faults) × IsSettled old new
+HasEndCause whole old new (Ok value) = (new.read_faults ≡ old.read_faults) × (new.write_faults ≡ old.write_faults)
+    × (new.close_faults ≡ old.close_faults)
+HasEndCause whole old new (Err ReadFault) = Rose old.read_faults new.read_faults × (old.read_faults ≤ new.read_faults)
+    × IsSettled old new
 HasEndCause whole old new (Err WriteFault) =
-    AreReadsKept old new × (Rose old.write_faults new.write_faults ⊎ (Rose old.close_faults new.close_faults × whole)) × (old.write_faults ≤ new.write_faults)
+    AreReadsKept old new × (Rose old.write_faults new.write_faults ⊎ (Rose old.close_faults new.close_faults × whole))
+    × (old.write_faults ≤ new.write_faults)
 HasEndCause whole old new (Err Limit) = (new.read_faults ≡ old.read_faults) × IsSettled old new
 HasEndCause whole old new (Err (Work refusal)) = (new.read_faults ≡ old.read_faults) × IsSettled old new
 

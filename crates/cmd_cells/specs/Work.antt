@@ -43,7 +43,8 @@ Holds old new more = (port : OutPort) → (sink_at port new).written ≡ (sink_a
 
 -- at each port a prefix of them was
 abbrev pub HoldsFront : Meaning → Meaning → Written → Type 0
-HoldsFront old new more = (port : OutPort) → (k : ℕ) × ((sink_at port new).written ≡ (sink_at port old).written ++ take k (more port))
+HoldsFront old new more = (port : OutPort) → (k : ℕ) × ((sink_at port new).written ≡ (sink_at port old).written ++ take
+    k (more port))
 
 -- the total output is the earlier output and this
 abbrev pub Follows : Written → Written → Written → Type 0
@@ -67,17 +68,21 @@ pub record GaveFront (Is : Written → Type 0) (before : Written) (old new : Mea
 
 -- The effect of a call of the work: it gave output that satisfies `Is`, and the new state satisfies `Stands`; or a
 -- write failed; or the work refuses the cells for a reason in `Its`, and nothing was written.
-abbrev pub Does : (Written → Type 0) → (Written → Type 0) → (Refusal → Type 0) → Written → Meaning → Meaning → Result (Unit {0}) RunError → Type 0
+abbrev pub Does : (Written → Type 0) → (Written → Type 0) → (Refusal → Type 0) → Written → Meaning → Meaning
+    → Result (Unit {0}) RunError → Type 0
 Does Stands Is Its before old new (Ok u) = Gave (λ after. Stands after × Is after) before old new
 Does Stands Is Its before old new (Err WriteFault) = GaveFront Is before old new
-Does Stands Is Its before old new (Err (stops.Work r)) = Its r × (old.tells ≡ true → (port : OutPort) → (sink_at port new).written ≡ (sink_at port old).written)
+Does Stands Is Its before old new (Err (stops.Work r)) = Its r
+    × (old.tells ≡ true → (port : OutPort) → (sink_at port new).written ≡ (sink_at port old).written)
 Does Stands Is Its before old new (Err ReadFault) = ⊥
 Does Stands Is Its before old new (Err Limit) = ⊥
 
 -- one more piece of the cells was taken; `standing` is the meaning of the state then
-abbrev pub Takes : Work → (List ℕ → Written → Type 0) → List ℕ → List ℕ → Written → Meaning → Meaning → Result (Unit {0}) RunError → Type 0
+abbrev pub Takes : Work → (List ℕ → Written → Type 0) → List ℕ → List ℕ → Written → Meaning → Meaning
+    → Result (Unit {0}) RunError → Type 0
 Takes w standing bytes piece before =
-    Does (standing (bytes ++ piece)) (w.Gives (bytes ++ piece)) (λ r. (left : List ℕ) → w.Refuses (bytes ++ piece) left before r) before
+    Does (standing (bytes ++ piece)) (w.Gives (bytes ++ piece))
+    (λ r. (left : List ℕ) → w.Refuses (bytes ++ piece) left before r) before
 
 -- all cells were taken
 abbrev pub Finishes : Work → List ℕ → Written → Meaning → Meaning → Result (Unit {0}) RunError → Type 0

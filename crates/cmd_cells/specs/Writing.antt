@@ -16,7 +16,9 @@ with_pending outs.Report waits m = m
 
 -- bytes were written at a port, or a prefix of them
 abbrev pub WritesAt : OutPort → List ℕ → Meaning → Meaning → Result (Unit {0}) RunError → Type 0
-WritesAt port bytes old new (Ok u) = new ≡ with_pending port new.pending (with_sink port (written_sink old.tells bytes (sink_at port old)) old)
+WritesAt port bytes old new (Ok u) = new ≡ with_pending port new.pending (with_sink port
+    (written_sink old.tells bytes (sink_at port old)) old)
 WritesAt port bytes old new (Err r) =
     (r ≡ WriteFault) × (k : ℕ)
-    × (new ≡ with_pending port new.pending (with_failed_write port new.write_faults new.report_faults (with_sink port (written_sink old.tells (take k bytes) (sink_at port old)) old)))
+    × (new ≡ with_pending port new.pending (with_failed_write port new.write_faults new.report_faults
+    (with_sink port (written_sink old.tells (take k bytes) (sink_at port old)) old)))

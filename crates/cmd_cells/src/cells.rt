@@ -32,7 +32,8 @@ fn take_next<'a, X: SymbolWork<'a, S>, S: Station<'a>>(
     ensures reason { HasReason (X.work (X.setup work.old)) result }
     ensures later_report { (S.meaning station.old).report_faults ≤ (S.meaning station.new).report_faults }
     ensures taken { TakesAtMost (X.work (X.setup work.old)).size (S.meaning station.old) (S.meaning station.new) }
-    ensures next { (most : ℕ) (file bytes : List ℕ) (given : Written) (start : Meaning) → number < most → length bytes ≡ number * (X.work (X.setup work.old)).size
+    ensures next { (most : ℕ) (file bytes : List ℕ) (given : Written) (start : Meaning) → number < most → length bytes
+        ≡ number * (X.work (X.setup work.old)).size
         → IsWorking (X.work (X.setup work.old)) (X.stands work.old) file start (S.meaning station.old) bytes given
         → Next (X.work (X.setup work.old)) (X.stands work.new) most file number start (S.meaning station.new) result }
 {
@@ -64,9 +65,11 @@ fn take_rest<'a, X: SymbolWork<'a, S>, S: Station<'a>>(
     ensures reason { HasReason (X.work (X.setup work.old)) result }
     ensures later_report { (S.meaning station.old).report_faults ≤ (S.meaning station.new).report_faults }
     ensures taken { TakesAtMost (X.work (X.setup work.old)).size (S.meaning station.old) (S.meaning station.new) }
-    ensures rest { (file bytes : List ℕ) (given : Written) (start : Meaning) → length bytes ≡ max_symbols * (X.work (X.setup work.old)).size
+    ensures rest { (file bytes : List ℕ) (given : Written) (start : Meaning) → length bytes
+        ≡ max_symbols * (X.work (X.setup work.old)).size
         → IsWorking (X.work (X.setup work.old)) (X.stands work.old) file start (S.meaning station.old) bytes given
-        → TakesAll (X.work (X.setup work.old)) (X.stands work.new) max_symbols file start (S.meaning station.new) result }
+        → TakesAll (X.work (X.setup work.old)) (X.stands work.new) max_symbols file start (S.meaning station.new)
+        result }
 {
     work.law();
     let filled = match fill(station, InPort::Cells, symbol) {
@@ -98,8 +101,10 @@ fn take_all<'a, X: SymbolWork<'a, S>, S: Station<'a>>(
     ensures cause { HasCause (S.meaning station.old) (S.meaning station.new) result }
     ensures reason { HasReason (X.work (X.setup work.old)) result }
     ensures later_report { (S.meaning station.old).report_faults ≤ (S.meaning station.new).report_faults }
-    ensures taken { TakesAtMost ((max_symbols + 1) * (X.work (X.setup work.old)).size) (S.meaning station.old) (S.meaning station.new) }
-    ensures all { TakesAll (X.work (X.setup work.old)) (X.stands work.new) max_symbols (S.meaning station.old).cells.left (S.meaning station.old) (S.meaning station.new) result }
+    ensures taken { TakesAtMost ((max_symbols + 1) * (X.work (X.setup work.old)).size) (S.meaning station.old)
+        (S.meaning station.new) }
+    ensures all { TakesAll (X.work (X.setup work.old)) (X.stands work.new) max_symbols
+        (S.meaning station.old).cells.left (S.meaning station.old) (S.meaning station.new) result }
 {
     work.begin(station)?;
     for number in 0..max_symbols {
@@ -112,7 +117,10 @@ fn take_all<'a, X: SymbolWork<'a, S>, S: Station<'a>>(
 }
 
 // Ends the work after the cells taken.
-fn end<'a, X: SymbolWork<'a, S>, S: Station<'a>>(work: &mut X, station: &mut S) -> Result<(), RunError>
+fn end<'a, X: SymbolWork<'a, S>, S: Station<'a>>(
+    work: &mut X,
+    station: &mut S,
+) -> Result<(), RunError>
     requires able { X.able }
     requires open { AreOpen (X.outputs (X.setup work.old)) (S.meaning station.old) }
     requires going { GoesOn (X.work (X.setup work.old)) (X.stands work.old) }
@@ -121,7 +129,8 @@ fn end<'a, X: SymbolWork<'a, S>, S: Station<'a>>(work: &mut X, station: &mut S) 
     ensures reason { HasReason (X.work (X.setup work.old)) result }
     ensures later_report { (S.meaning station.old).report_faults ≤ (S.meaning station.new).report_faults }
     ensures left { (S.meaning station.new).cells.left ≡ (S.meaning station.old).cells.left }
-    ensures ends { (most : ℕ) (file bytes : List ℕ) (given : Written) (start : Meaning) → symbols (X.work (X.setup work.old)).size bytes ≤ most
+    ensures ends { (most : ℕ) (file bytes : List ℕ) (given : Written) (start : Meaning)
+        → symbols (X.work (X.setup work.old)).size bytes ≤ most
         → (IsTrue (S.meaning station.old).tells → (S.meaning station.old).cells.left ≡ [])
         → IsWorking (X.work (X.setup work.old)) (X.stands work.old) file start (S.meaning station.old) bytes given
         → Works (X.work (X.setup work.old)) most file start (S.meaning station.new) result }
@@ -148,8 +157,10 @@ pub(crate) fn work_on_cells<'a, X: SymbolWork<'a, S>, S: Station<'a>>(
     ensures cause { HasCause (S.meaning station.old) (S.meaning station.new) result }
     ensures reason { HasReason (X.work (X.setup work.old)) result }
     ensures later_report { (S.meaning station.old).report_faults ≤ (S.meaning station.new).report_faults }
-    ensures taken { TakesAtMost ((max_symbols + 1) * (X.work (X.setup work.old)).size) (S.meaning station.old) (S.meaning station.new) }
-    ensures works { Works (X.work (X.setup work.old)) max_symbols (S.meaning station.old).cells.left (S.meaning station.old) (S.meaning station.new) result }
+    ensures taken { TakesAtMost ((max_symbols + 1) * (X.work (X.setup work.old)).size) (S.meaning station.old)
+        (S.meaning station.new) }
+    ensures works { Works (X.work (X.setup work.old)) max_symbols (S.meaning station.old).cells.left
+        (S.meaning station.old) (S.meaning station.new) result }
 {
     take_all(max_symbols, work, symbol, station)?;
     end(work, station)

@@ -3,8 +3,7 @@ ghost use Rattle.std.specs.Prelude.{◌≡◌, true};
 ghost use Rattle.station_core.specs.Meaning.{IsUnasked};
 ghost use Rattle.cmd_cells.specs.Opening.{Opens, ReadsHeader};
 
-use cmd_base::{CellsRefusal, Refusal};
-use cmd_base::fill;
+use cmd_base::{CellsRefusal, Refusal, fill};
 use station_core::{InPort, Station};
 
 // Reads the header, if the cells must have one. Each read requests the bytes still missing.

@@ -3,7 +3,8 @@ ghost use Rattle.std.specs.Prelude.{◌≡◌, Option, Some, true, false, is_som
 ghost use Rattle.std.specs.Option.{option_copied};
 ghost use Rattle.cmd_cells.specs.Stops.{HasCause, HasCloseCause};
 ghost use Rattle.cmd_cells.specs.Work.{AreOpen};
-ghost use Rattle.cmd_cells.specs.Outputs.{AreClosed, AreUntouched, ClosesLp, IsWriting, Makes, Names, cell_names, stream_names};
+ghost use Rattle.cmd_cells.specs.Outputs.{AreClosed, AreUntouched, ClosesLp, IsWriting, Makes, Names, cell_names};
+ghost use Rattle.cmd_cells.specs.Outputs.{stream_names};
 
 use crate::run_error::RunError;
 use station_core::{OutPort as Port, Station};

@@ -48,11 +48,15 @@ fn run_behind<'a, F: OutputFiles<'a, S>, X: SymbolWork<'a, S>, S: Station<'a>>(
     ensures others { PortsOnly (S.meaning station.old) (S.meaning station.new) }
     ensures cells_asked { (S.meaning station.new).cells.asked ≡ (S.meaning station.old).cells.asked }
     ensures asks { AsksOutputs (F.names files.now) (S.meaning station.old) (S.meaning station.new) }
-    ensures cause { HasEndCause ((S.meaning station.old).tells ≡ true → EndsWithin (X.work (X.setup work.old)) max_symbols (S.meaning station.old).cells.left) (S.meaning station.old) (S.meaning station.new) result }
+    ensures cause { HasEndCause ((S.meaning station.old).tells ≡ true
+        → EndsWithin (X.work (X.setup work.old)) max_symbols (S.meaning station.old).cells.left) (S.meaning station.old)
+        (S.meaning station.new) result }
     ensures reason { HasReason (X.work (X.setup work.old)) result }
     ensures later_report { (S.meaning station.old).report_faults ≤ (S.meaning station.new).report_faults }
-    ensures ran { RanBehind (X.work (X.setup work.old)) max_symbols (F.names files.now) (S.meaning station.old) (S.meaning station.new) result }
-    ensures taken { TakesAtMost ((max_symbols + 1) * (X.work (X.setup work.old)).size) (S.meaning station.old) (S.meaning station.new) }
+    ensures ran { RanBehind (X.work (X.setup work.old)) max_symbols (F.names files.now) (S.meaning station.old)
+        (S.meaning station.new) result }
+    ensures taken { TakesAtMost ((max_symbols + 1) * (X.work (X.setup work.old)).size) (S.meaning station.old)
+        (S.meaning station.new) }
 {
     files.create(station)?;
     let worked = work_on_cells(max_symbols, work, symbol, station);
@@ -76,7 +80,8 @@ fn run_opened<'a, F: OutputFiles<'a, S>, X: SymbolWork<'a, S>, S: Station<'a>>(
     requires size { length symbol.old ≡ (X.work (X.setup work.old)).size }
     requires some { 0 < length symbol.old }
     requires new { X.is_new work.old }
-    ensures runs { RunsBehind (X.work (X.setup work.old)) max_symbols (F.names files.now) (S.meaning station.old) (S.meaning station.new) result }
+    ensures runs { RunsBehind (X.work (X.setup work.old)) max_symbols (F.names files.now) (S.meaning station.old)
+        (S.meaning station.new) result }
 {
     match run_behind(max_symbols, files, work, symbol, station) {
         Ok(()) => 0,
@@ -104,7 +109,8 @@ pub fn run_cells<'a, F: OutputFiles<'a, S>, X: SymbolWork<'a, S>, S: Station<'a>
     requires size { length symbol.old ≡ (X.work (X.setup work.old)).size }
     requires some { 0 < length symbol.old }
     requires new { X.is_new work.old }
-    ensures runs { RunsCells (X.work (X.setup work.old)) max_symbols cells.now header (F.names files.now) (S.meaning station.old) (S.meaning station.new) result }
+    ensures runs { RunsCells (X.work (X.setup work.old)) max_symbols cells.now header (F.names files.now)
+        (S.meaning station.old) (S.meaning station.new) result }
 {
     match open_cells(cells, header, station) {
         Ok(()) => run_opened(max_symbols, files, work, symbol, station),

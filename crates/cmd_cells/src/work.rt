@@ -3,7 +3,8 @@ ghost use Rattle.std.specs.Prelude.{◌≡◌, ◌≤◌, ◌<◌, ◌+◌, ◌+
 ghost use Rattle.station_core.specs.declared.ports.OutPort.{OutPort};
 ghost use Rattle.cmd_cells.specs.Stops.{HasCause};
 ghost use Rattle.cmd_cells.specs.Symbols.{tail};
-ghost use Rattle.cmd_cells.specs.Work.{AreOpen, Finishes, GoesOn, HasReason, Takes, Work, WritesOnly, Written, none_written};
+ghost use Rattle.cmd_cells.specs.Work.{AreOpen, Finishes, GoesOn, HasReason, Takes, Work, WritesOnly, Written};
+ghost use Rattle.cmd_cells.specs.Work.{none_written};
 
 use crate::run_error::RunError;
 use station_core::Station;
@@ -38,7 +39,8 @@ pub trait SymbolWork<'a, S: Station<'a>> {
         ensures cause { HasCause (S.meaning station.old) (S.meaning station.new) result }
         ensures reason { HasReason (work (setup self.old)) result }
         ensures later_report { (S.meaning station.old).report_faults ≤ (S.meaning station.new).report_faults }
-        ensures begins { Takes (work (setup self.old)) (stands self.new) [] [] none_written (S.meaning station.old) (S.meaning station.new) result };
+        ensures begins { Takes (work (setup self.old)) (stands self.new) [] [] none_written (S.meaning station.old)
+            (S.meaning station.new) result };
 
     /// Takes the next symbol or, if the cells end within it, the part there is of it, and writes the output for it. No
     /// symbol was unfinished before.
@@ -51,9 +53,11 @@ pub trait SymbolWork<'a, S: Station<'a>> {
         ensures cause { HasCause (S.meaning station.old) (S.meaning station.new) result }
         ensures reason { HasReason (work (setup self.old)) result }
         ensures later_report { (S.meaning station.old).report_faults ≤ (S.meaning station.new).report_faults }
-        ensures takes { (bytes : List ℕ) (before : Written) → stands self.old bytes before → (work (setup self.old)).Gives bytes before
+        ensures takes { (bytes : List ℕ) (before : Written) → stands self.old bytes before
+            → (work (setup self.old)).Gives bytes before
             → tail (work (setup self.old)).size bytes ≡ 0 → length piece.now ≤ (work (setup self.old)).size
-            → Takes (work (setup self.old)) (stands self.new) bytes piece.now before (S.meaning station.old) (S.meaning station.new) result };
+            → Takes (work (setup self.old)) (stands self.new) bytes piece.now before (S.meaning station.old)
+            (S.meaning station.new) result };
 
     /// Ends the work at the end of the cells, and writes the remaining output and the closing lines.
     fn finish(&mut self, station: &mut S) -> Result<(), RunError>
@@ -64,11 +68,13 @@ pub trait SymbolWork<'a, S: Station<'a>> {
         ensures cause { HasCause (S.meaning station.old) (S.meaning station.new) result }
         ensures reason { HasReason (work (setup self.old)) result }
         ensures later_report { (S.meaning station.old).report_faults ≤ (S.meaning station.new).report_faults }
-        ensures finishes { (bytes : List ℕ) (before : Written) → stands self.old bytes before → (work (setup self.old)).Gives bytes before
+        ensures finishes { (bytes : List ℕ) (before : Written) → stands self.old bytes before
+            → (work (setup self.old)).Gives bytes before
             → Finishes (work (setup self.old)) bytes before (S.meaning station.old) (S.meaning station.new) result };
 
     /// A law of the work: bytes that do not complete a symbol add no output.
     fn law(&self)
-        ensures part { (bytes more : List ℕ) (given : Written) → tail (work (setup self.now)).size bytes + length more < (work (setup self.now)).size
+        ensures part { (bytes more : List ℕ) (given : Written) → tail (work (setup self.now)).size bytes
+            + length more < (work (setup self.now)).size
             → (work (setup self.now)).Gives bytes given → (work (setup self.now)).Gives (bytes ++ more) given };
 }

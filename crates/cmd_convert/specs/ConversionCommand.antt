@@ -1,5 +1,6 @@
 -- The command of a conversion, `NAME SETTINGS OLD NEW`: its outputs, from its settings and the old file alone.
-use Rattle.std.specs.Prelude.{◌≡◌, ◌⊎◌, ℕ, ◌+◌, ◌*◌, ◌<◌, ◌≤◌, nat_lt, if◌then◌else◌, List, [], ◌++◌, Option, None, Some, option_and_then, false}
+use Rattle.std.specs.Prelude.{◌≡◌, ◌⊎◌, ℕ, ◌+◌, ◌*◌, ◌<◌, ◌≤◌, nat_lt, if◌then◌else◌, List, [], ◌++◌, Option, None}
+use Rattle.std.specs.Prelude.{Some, option_and_then, false}
 use Rattle.station_core.specs.declared.ports.InPort.TheVariants as ins
 use Rattle.mode_set.specs.declared.modes.Mode.{Mode}
 use Rattle.mode_set.specs.declared.settings.Settings.{Settings}
@@ -20,11 +21,13 @@ limit_refusal c most bytes = if nat_lt most (symbols c.size bytes) then Some (Li
 
 -- The new file is that of all old cells or, if they have more whole symbols than the limit, of those within it.
 abbrev pub FileComes : Conversion → ℕ → List ℕ → List ℕ → Type 0
-FileComes c most bytes output = ((symbols c.size bytes ≤ most) × (output ≡ new_file c bytes)) ⊎ ((most < symbols c.size bytes) × (output ≡ new_file c (within_limit most c.size bytes)))
+FileComes c most bytes output = ((symbols c.size bytes ≤ most) × (output ≡ new_file c bytes))
+    ⊎ ((most < symbols c.size bytes) × (output ≡ new_file c (within_limit most c.size bytes)))
 
 -- The report is the closing line, or is empty past the limit.
 abbrev pub LinesCome : Conversion → ℕ → List ℕ → List ℕ → Type 0
-LinesCome c most bytes lines = ((symbols c.size bytes ≤ most) × (lines ≡ closing_line c bytes)) ⊎ ((most < symbols c.size bytes) × (lines ≡ []))
+LinesCome c most bytes lines = ((symbols c.size bytes ≤ most) × (lines ≡ closing_line c bytes))
+    ⊎ ((most < symbols c.size bytes) × (lines ≡ []))
 
 -- After a failed read the new file is that of the old cells taken, within the limit.
 pub record FileSoFar (c : Conversion) (most : ℕ) (bytes left output : List ℕ) : Type 0 where
@@ -48,12 +51,16 @@ conversion_command by statuses laws settings old new = record {
   LacksAtWork = λ limit file unread. ⊥;
   early_refusal = λ file. settings_refusal (file settings);
   header = λ file. option_and_then (λ s. (by s.mode).old_header) (settings_of (file settings));
-  work_refusal = λ limit file. option_and_then (λ s. limit_refusal (by s.mode) s.max_symbols (old_cells (by s.mode) (file old))) (settings_of (file settings));
+  work_refusal = λ limit file. option_and_then (λ s. limit_refusal (by s.mode) s.max_symbols
+      (old_cells (by s.mode) (file old))) (settings_of (file settings));
   most_taken = λ limit file. by_input (most_settings + 1) 0 0 (most_old by (settings_of (file settings)));
-  Comes = λ limit file port output. (s : Settings) × (settings_of (file settings) ≡ Some s) × FileComes (by s.mode) s.max_symbols (old_cells (by s.mode) (file old)) output;
-  Prints = λ limit file lines. (s : Settings) × (settings_of (file settings) ≡ Some s) × LinesCome (by s.mode) s.max_symbols (old_cells (by s.mode) (file old)) lines;
+  Comes = λ limit file port output. (s : Settings) × (settings_of (file settings) ≡ Some s)
+      × FileComes (by s.mode) s.max_symbols (old_cells (by s.mode) (file old)) output;
+  Prints = λ limit file lines. (s : Settings) × (settings_of (file settings) ≡ Some s)
+      × LinesCome (by s.mode) s.max_symbols (old_cells (by s.mode) (file old)) lines;
   ComesSoFar = λ limit file unread port output.
-      (s : Settings) × (settings_of (file settings) ≡ Some s) × FileSoFar (by s.mode) s.max_symbols (old_cells (by s.mode) (file old)) (unread ins.Cells) output;
+      (s : Settings) × (settings_of (file settings) ≡ Some s)
+      × FileSoFar (by s.mode) s.max_symbols (old_cells (by s.mode) (file old)) (unread ins.Cells) output;
   PrintsSoFar = λ limit file unread lines. lines ≡ [];
   Own = λ limit file. laws file;
 }

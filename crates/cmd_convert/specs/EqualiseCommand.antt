@@ -12,4 +12,5 @@ statuses = 0 ∷ 3 ∷ 5 ∷ 6 ∷ 7 ∷ 8 ∷ 9 ∷ []
 
 -- OUT is the header and the corrected cells of IN, for the mode in the settings; its law relates both files
 abbrev pub equalise_command : List ℕ → List ℕ → List ℕ → Command
-equalise_command settings old new = conversion_command equalisation statuses (λ file. EqualiseLaws (settings_of (file settings)) (file old)) settings old new
+equalise_command settings old new = conversion_command equalisation statuses (λ file. EqualiseLaws
+    (settings_of (file settings)) (file old)) settings old new

@@ -13,11 +13,14 @@ use Rattle.cmd_convert.specs.Equalising.{equalisation}
 -- If the cells of IN are a transmission, received through one gain of half to full nominal amplitude:
 pub record GainIsRemoved (s : Settings) (bytes : List ℕ) : Type 0 where
   -- Each cell of OUT is within 64 of the cell sent, on both axes, and has a weight of at least 1.
-  pub restored : (inputs : Inputs) (a b : ℤ) → IsFlat a b → HaveCome s inputs a b bytes → AreRestored 64 s inputs (new_cells (equalisation s.mode) bytes)
+  pub restored : (inputs : Inputs) (a b : ℤ) → IsFlat a b → HaveCome s inputs a b bytes
+      → AreRestored 64 s inputs (new_cells (equalisation s.mode) bytes)
   -- That is within the tolerance of the settings' constellation, so `receive` gives for it ..
-  pub within : (inputs : Inputs) (a b : ℤ) → IsFlat a b → HaveCome s inputs a b bytes → IsWithin s inputs (new_cells (equalisation s.mode) bytes)
+  pub within : (inputs : Inputs) (a b : ℤ) → IsFlat a b → HaveCome s inputs a b bytes
+      → IsWithin s inputs (new_cells (equalisation s.mode) bytes)
   -- .. from start zero: the packets of the transmission, then null packets.
-  pub returned : (inputs : Inputs) (a b : ℤ) → s.start ≡ Zero → HavePackets s inputs → IsFlat a b → HaveCome s inputs a b bytes
+  pub returned : (inputs : Inputs) (a b : ℤ) → s.start ≡ Zero → HavePackets s inputs → IsFlat a b
+      → HaveCome s inputs a b bytes
       → (r : Reception) → Final s (new_cells (equalisation s.mode) bytes) r → IsReturned s inputs r.packets
 
 -- the law, from the stated settings, if any, and the file IN

@@ -11,8 +11,10 @@ use Rattle.cmd_convert.specs.Working.{conversion_work}
 
 -- the old cells were converted
 abbrev pub RunsConversion : Conversion → ℕ → List ℕ → List ℕ → Meaning → Meaning → ℕ → Type 0
-RunsConversion c most old_name new_name old new status = RunsCells (conversion_work c) most old_name c.old_header (cell_names new_name) old new status
+RunsConversion c most old_name new_name old new status = RunsCells (conversion_work c) most old_name c.old_header
+    (cell_names new_name) old new status
 
 -- or memory was lacking before a port was requested
 abbrev pub RunsOrLacks : Conversion → ℕ → List ℕ → List ℕ → Meaning → Meaning → ℕ → Type 0
-RunsOrLacks c most old_name new_name old new status = RunsConversion c most old_name new_name old new status ⊎ ((status ≡ 7) × WritesText (refusal_text Memory) old new)
+RunsOrLacks c most old_name new_name old new status = RunsConversion c most old_name new_name old new status
+    ⊎ ((status ≡ 7) × WritesText (refusal_text Memory) old new)

@@ -10,10 +10,9 @@ ghost use Rattle.cmd_convert.specs.EqualiseCommand.{equalise_command};
 
 use crate::equaliser::Equaliser;
 use crate::run_conversion;
+use cmd_base::{Limits, Refusal, read_settings, refuse};
 use frame_build::{SymbolIn, header};
 use mode_set::{Carriers, Mode, Mode2k, Mode8k, Settings};
-use cmd_base::{Limits, Refusal};
-use cmd_base::{read_settings, refuse};
 use station_core::Station;
 use std::alloc::Global;
 
@@ -27,7 +26,8 @@ fn equalise_in<'a, M: Carriers, S: Station<'a>>(
 ) -> u8
     requires mode { settings.now.mode ≡ M.MODE }
     requires ready { IsReady (cell_names new_cells.now) (S.meaning station.old) }
-    ensures { RunsOrLacks (equalisation M.MODE) settings.now.max_symbols old_cells.now new_cells.now (S.meaning station.old) (S.meaning station.new) result }
+    ensures { RunsOrLacks (equalisation M.MODE) settings.now.max_symbols old_cells.now new_cells.now
+        (S.meaning station.old) (S.meaning station.new) result }
 {
     let size = 5 * M::K as usize;
     let Ok(mut bytes) = vec![in alloc; 0u8; size] else {
@@ -59,7 +59,8 @@ fn equalise_accepted<'a, S: Station<'a>>(
     station: &mut S,
 ) -> u8
     requires ready { IsReady (cell_names new_cells.now) (S.meaning station.old) }
-    ensures { RunsOrLacks (equalisation settings.now.mode) settings.now.max_symbols old_cells.now new_cells.now (S.meaning station.old) (S.meaning station.new) result }
+    ensures { RunsOrLacks (equalisation settings.now.mode) settings.now.max_symbols old_cells.now new_cells.now
+        (S.meaning station.old) (S.meaning station.new) result }
 {
     match settings.mode {
         Mode::M2k => equalise_in::<Mode2k, S>(alloc, settings, old_cells, new_cells, station),
@@ -86,7 +87,8 @@ pub fn equalise<'a, S: Station<'a>>(
     station: &mut S,
 ) -> u8
     requires fresh { IsFresh (S.meaning station.old) }
-    ensures { Run (equalise_command settings.now old_cells.now new_cells.now) limits.now.packets (S.meaning station.old) (S.meaning station.new) result }
+    ensures { Run (equalise_command settings.now old_cells.now new_cells.now) limits.now.packets (S.meaning station.old)
+        (S.meaning station.new) result }
 {
     law_link::flat_gain::files_come_back();
     match read_settings(alloc, settings, station) {

@@ -6,8 +6,8 @@ ghost use Rattle.cmd_convert.specs.Runs.{RunsConversion};
 
 use crate::converter::Converter;
 use crate::work::ConversionWork;
-use station_core::Station;
 use cmd_cells::{CellFile, run_cells};
+use station_core::Station;
 
 /// Converts the cells of the old file, which must begin with this header, if any, and returns the status. `symbol` has
 /// the size of an old symbol, and the limit is in whole symbols.
@@ -25,7 +25,8 @@ pub fn run_conversion<'a, C: Converter + Drop, S: Station<'a>>(
     requires size { length symbol.old ≡ (C.conversion converter).size }
     requires some { 0 < length symbol.old }
     requires ready { IsReady (cell_names new_cells.now) (S.meaning station.old) }
-    ensures { RunsConversion (C.conversion converter) max_symbols old_cells.now new_cells.now (S.meaning station.old) (S.meaning station.new) result }
+    ensures { RunsConversion (C.conversion converter) max_symbols old_cells.now new_cells.now (S.meaning station.old)
+        (S.meaning station.new) result }
 {
     let mut work = ConversionWork {
         converter,

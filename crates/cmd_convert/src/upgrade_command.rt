@@ -7,11 +7,10 @@ ghost use Rattle.cmd_convert.specs.Runs.{RunsOrLacks};
 ghost use Rattle.cmd_convert.specs.Upgrading.{upgrading};
 ghost use Rattle.cmd_convert.specs.UpgradeCommand.{upgrade_command};
 
-use crate::upgrader::Upgrader;
 use crate::run_conversion;
+use crate::upgrader::Upgrader;
+use cmd_base::{Limits, Refusal, read_settings, refuse};
 use mode_set::Settings;
-use cmd_base::{Limits, Refusal};
-use cmd_base::{read_settings, refuse};
 use station_core::Station;
 use std::alloc::Global;
 
@@ -24,7 +23,8 @@ fn upgrade_accepted<'a, S: Station<'a>>(
     station: &mut S,
 ) -> u8
     requires ready { IsReady (cell_names new_cells.now) (S.meaning station.old) }
-    ensures { RunsOrLacks (upgrading settings.now.mode) settings.now.max_symbols old_cells.now new_cells.now (S.meaning station.old) (S.meaning station.new) result }
+    ensures { RunsOrLacks (upgrading settings.now.mode) settings.now.max_symbols old_cells.now new_cells.now
+        (S.meaning station.old) (S.meaning station.new) result }
 {
     let carriers = settings.mode.carriers() as usize;
     let Ok(mut symbol) = vec![in alloc; 0u8; 4 * carriers] else {
@@ -63,7 +63,8 @@ pub fn upgrade<'a, S: Station<'a>>(
     station: &mut S,
 ) -> u8
     requires fresh { IsFresh (S.meaning station.old) }
-    ensures { Run (upgrade_command settings.now old_cells.now new_cells.now) limits.now.packets (S.meaning station.old) (S.meaning station.new) result }
+    ensures { Run (upgrade_command settings.now old_cells.now new_cells.now) limits.now.packets (S.meaning station.old)
+        (S.meaning station.new) result }
 {
     law_link::upgraded::upgraded_costs();
     match read_settings(alloc, settings, station) {

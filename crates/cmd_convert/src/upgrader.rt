@@ -1,7 +1,7 @@
 // Upgrade of a symbol.
 
-use crate::old_cells::upgrade_symbol;
 use crate::Converter;
+use crate::old_cells::upgrade_symbol;
 use frame_build::header;
 use mode_set::Mode;
 

@@ -3,9 +3,9 @@ ghost use Rattle.std.specs.Prelude.{◌≡◌};
 ghost use Rattle.cmd_convert.specs.Conversion.{counts_line};
 
 use crate::converter::Converter;
+use cmd_cells::{RunError, SymbolWork, write_some};
 use rx_report::{Line, push_count};
 use station_core::{OutPort, Station};
-use cmd_cells::{RunError, SymbolWork, write_some};
 
 /// A converter, with the counts of the old cells.
 #[derive(Drop)]
@@ -46,7 +46,8 @@ impl<'a, S: Station<'a>, C: Converter> SymbolWork<'a, S> for ConversionWork<C> {
 
     ghost is_new = { λ x. C.is_ready x.converter × CountsNone (C.conversion x.converter) x.symbols x.tail };
 
-    ghost stands = { λ x bytes given. C.is_ready x.converter × Counts (C.conversion x.converter) x.symbols x.tail bytes given };
+    ghost stands = { λ x bytes given. C.is_ready x.converter
+        × Counts (C.conversion x.converter) x.symbols x.tail bytes given };
 
     fn begin(&mut self, station: &mut S) -> Result<(), RunError> {
         write_some(OutPort::Cells, &self.converter.header(), station)

@@ -27,11 +27,14 @@ measure_command settings cells = record {
   LacksAtWork = λ limit file unread. ⊥;
   early_refusal = λ file. settings_refusal (file settings);
   header = λ file. header_by (settings_of (file settings));
-  work_refusal = λ limit file. option_and_then (λ s. reception_refusal s (cells_in (file cells))) (settings_of (file settings));
+  work_refusal = λ limit file. option_and_then (λ s. reception_refusal s (cells_in (file cells)))
+      (settings_of (file settings));
   most_taken = λ limit file. by_input (most_settings + 1) 0 0 (most_cells (settings_of (file settings)));
   Comes = λ limit file port output. output ≡ [];
-  Prints = λ limit file lines. (s : Settings) × (settings_of (file settings) ≡ Some s) × LinesCome s (cells_in (file cells)) lines;
+  Prints = λ limit file lines. (s : Settings) × (settings_of (file settings) ≡ Some s)
+      × LinesCome s (cells_in (file cells)) lines;
   ComesSoFar = λ limit file unread port output. output ≡ [];
-  PrintsSoFar = λ limit file unread lines. LinesSoFar (settings_of (file settings)) (file cells) (unread ins.Cells) lines;
+  PrintsSoFar = λ limit file unread lines. LinesSoFar (settings_of (file settings)) (file cells) (unread ins.Cells)
+      lines;
   Own = λ limit file. MeasureLaws (settings_of (file settings)) (file cells);
 }

@@ -54,11 +54,13 @@ pub record GoesOn (s : Settings) (standing : List ℕ → List ℕ → Type 0) :
   pub few : symbols s bytes < 2 ^ 32
 
 -- after one more piece the measurer matches all bytes and the lines given before and now
-pub record Takes (standing : List ℕ → List ℕ → Type 0) (s : Settings) (bytes piece given : List ℕ) (lines : List (List ℕ)) : Type 0 where
+pub record Takes (standing : List ℕ → List ℕ → Type 0) (s : Settings) (bytes piece given : List ℕ)
+    (lines : List (List ℕ)) : Type 0 where
   pub stands : standing (bytes ++ piece) (given ++ concat lines)
   pub live : MeasureLive s (bytes ++ piece) (given ++ concat lines)
 
 -- the work was done on the cells, or memory was lacking before a port was requested
 abbrev pub RunsOrLacks : Settings → List ℕ → Meaning → Meaning → ℕ → Type 0
 RunsOrLacks s cells old new status =
-    RunsCells (measuring_work s) s.max_symbols cells (Some (header s.mode)) no_names old new status ⊎ ((status ≡ 7) × WritesText (refusal_text Memory) old new)
+    RunsCells (measuring_work s) s.max_symbols cells (Some (header s.mode)) no_names old new status
+    ⊎ ((status ≡ 7) × WritesText (refusal_text Memory) old new)

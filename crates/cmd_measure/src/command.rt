@@ -15,15 +15,14 @@ ghost use Rattle.cmd_measure.specs.Working.{RunsOrLacks, measuring_work};
 use crate::measurers::{MeasurerWithLines, ModeMeasurer};
 use crate::measuring_work::MeasuringWork;
 use crate::no_files::NoFiles;
+use cmd_base::{Limits, Refusal, read_settings, refuse};
+use cmd_cells::run_cells;
 use frame_build::header;
 use measurer::{MeasureOut, Measurer};
 use mode_set::{Carriers, Mode, Mode2k, Mode8k, Settings};
-use cmd_base::{Limits, Refusal};
-use cmd_base::{read_settings, refuse};
 use station_core::Station;
 use std::alloc::Global;
 use std::thread::Threads;
-use cmd_cells::run_cells;
 use word_workers::Gate;
 
 // Runs the work with a measurer that has had no byte, fed by this feeder. `symbol` has the size of a symbol.
@@ -47,7 +46,8 @@ fn measure_by<
     requires settings { (T.state measurer.measurer).settings ≡ settings.now }
     requires size { length symbol.old ≡ symbol_length settings.now }
     requires ready { IsReady no_names (S.meaning station.old) }
-    ensures { RunsCells (measuring_work settings.now) settings.now.max_symbols cells.now (Some (header_of settings.now.mode)) no_names (S.meaning station.old) (S.meaning station.new) result }
+    ensures { RunsCells (measuring_work settings.now) settings.now.max_symbols cells.now
+        (Some (header_of settings.now.mode)) no_names (S.meaning station.old) (S.meaning station.new) result }
 {
     let mut work = MeasuringWork { measurer };
     run_cells(
@@ -132,7 +132,8 @@ pub fn measure<'a, R: Threads + Sync, G: Gate, S: Station<'a>>(
     station: &mut S,
 ) -> u8
     requires fresh { IsFresh (S.meaning station.old) }
-    ensures { Run (measure_command settings.now cells.now) limits.now.packets (S.meaning station.old) (S.meaning station.new) result }
+    ensures { Run (measure_command settings.now cells.now) limits.now.packets (S.meaning station.old)
+        (S.meaning station.new) result }
 {
     reception::laws::symbols();
     reception::laws::receptions();

@@ -67,7 +67,8 @@ impl<
 
     ghost settings = { λ x. (T.state x.measurer).settings };
 
-    ghost stands = { λ x moment bytes given. StandsFor moment (T.state x.measurer) bytes given × IsFeeder T.size T.state F.Fn x.feeder.now × (symbol_length (T.state x.measurer).settings ≡ T.size) };
+    ghost stands = { λ x moment bytes given. StandsFor moment (T.state x.measurer) bytes given
+        × IsFeeder T.size T.state F.Fn x.feeder.now × (symbol_length (T.state x.measurer).settings ≡ T.size) };
 
     ghost gave = { λ x. x.out };
 

@@ -2,8 +2,8 @@
 
 use crate::cell_measurer::CellMeasurer;
 use crate::writing::write_lines;
-use station_core::Station;
 use cmd_cells::{RunError, SymbolWork};
+use station_core::Station;
 
 /// A measurer whose lines are written.
 #[derive(Drop)]

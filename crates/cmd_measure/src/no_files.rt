@@ -1,7 +1,7 @@
 // The outputs of a command that writes only its report.
 
-use station_core::Station;
 use cmd_cells::{OutputFiles, RunError};
+use station_core::Station;
 
 /// No file.
 #[derive(Clone, Copy)]

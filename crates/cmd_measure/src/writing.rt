@@ -6,12 +6,15 @@ ghost use Rattle.cmd_cells.specs.Stops.{HasCause};
 ghost use Rattle.cmd_receive.specs.Writing.{Appends, IsPrinting, ReportOnly};
 ghost use Rattle.cmd_measure.specs.Working.{texts};
 
+use cmd_cells::{RunError, write_some};
 use measure_report::Line;
 use station_core::{OutPort, Station};
-use cmd_cells::{RunError, write_some};
 
 /// Writes lines to Report, one write for each.
-pub(crate) fn write_lines<'a, S: Station<'a>>(lines: &[Line], station: &mut S) -> Result<(), RunError>
+pub(crate) fn write_lines<'a, S: Station<'a>>(
+    lines: &[Line],
+    station: &mut S,
+) -> Result<(), RunError>
     requires printing { IsPrinting (S.meaning station.old) }
     ensures kind { IsWriting result }
     ensures cause { HasCause (S.meaning station.old) (S.meaning station.new) result }

@@ -1,5 +1,6 @@
 -- The inputs of a modulation, packet by packet.
-use Rattle.std.specs.Prelude.{◌≡◌, ℕ, ◌+◌, ◌-◌, ◌*◌, ◌/◌, ◌≤◌, if◌then◌else◌, List, [], length, drop, Option, Some, None, Result, Ok, Err, ⊤}
+use Rattle.std.specs.Prelude.{◌≡◌, ℕ, ◌+◌, ◌-◌, ◌*◌, ◌/◌, ◌≤◌, if◌then◌else◌, List, [], length, drop, Option, Some}
+use Rattle.std.specs.Prelude.{None, Result, Ok, Err, ⊤}
 use Rattle.std.specs.Option.{option_map}
 use Rattle.station_core.specs.Meaning.{Meaning}
 use Rattle.station_core.specs.declared.ports.InPort.{InPort}
@@ -36,7 +37,8 @@ ReadsAt Lp old new = new ≡ record old { lp = record old.lp { left = new.lp.lef
 -- the bytes left of a file after `taken` packets, and the number of packets put, including null packets after its end
 abbrev pub HasLeft : List ℕ → List ℕ → ℕ → Option ℕ → ℕ → Type 0
 HasLeft file left taken None put = (left ≡ drop (188 * taken) file) × (put ≡ taken)
-HasLeft file left taken (Some tail) put = (left ≡ []) × (taken ≡ whole_packets file) × (tail ≡ tail_of file) × (taken ≤ put)
+HasLeft file left taken (Some tail) put = (left ≡ []) × (taken ≡ whole_packets file) × (tail ≡ tail_of file)
+    × (taken ≤ put)
 
 -- an input has read so far in a file, and `put` packets of it were put
 pub record Reads (file left : List ℕ) (input : PacketInput) (put : ℕ) : Type 0 where
@@ -63,6 +65,9 @@ IsTaking (Err refusal) = ⊥
 -- are those that were put.
 abbrev pub Gives : ℕ → (Stream → List ℕ) → Stream → ℕ → List ℕ → PacketInput → Result (List ℕ) Refusal → Type 0
 Gives limit files σ put left input (Ok packet) =
-    (packet ≡ packet_at (inputs_of files σ) put) × (packet_refusal limit (inputs_of files) σ put ≡ None) × Reads (files σ) left input (put + 1)
-Gives limit files σ put left input (Err ReadFault) = (input.tail ≡ None) × ((length (files σ) - length left) / 188 ≡ put) × IsNear (files σ) left put
-Gives limit files σ put left input (Err refusal) = (option_map refused_by (packet_refusal limit (inputs_of files) σ put) ≡ Some refusal) × IsNear (files σ) left put
+    (packet ≡ packet_at (inputs_of files σ) put) × (packet_refusal limit (inputs_of files) σ put ≡ None)
+    × Reads (files σ) left input (put + 1)
+Gives limit files σ put left input (Err ReadFault) = (input.tail ≡ None)
+    × ((length (files σ) - length left) / 188 ≡ put) × IsNear (files σ) left put
+Gives limit files σ put left input (Err refusal) = (option_map refused_by (packet_refusal limit (inputs_of files) σ put)
+    ≡ Some refusal) × IsNear (files σ) left put

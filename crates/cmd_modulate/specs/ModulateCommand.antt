@@ -1,6 +1,7 @@
 -- The commands `modulate SETTINGS HP CELLS` and `modulate SETTINGS HP LP CELLS`: their outputs, from the settings, the
 -- limit of packets and the files alone.
-use Rattle.std.specs.Prelude.{◌≡◌, ℕ, ◌+◌, ◌-◌, ◌/◌, ◌<◌, ◌≤◌, Bool, true, ⊤, if◌then◌else◌, List, [], ◌∷◌, ◌++◌, length, codes, decimal, Option, Some, None, is_some, option_and_then, unwrap_or, false}
+use Rattle.std.specs.Prelude.{◌≡◌, ℕ, ◌+◌, ◌-◌, ◌/◌, ◌<◌, ◌≤◌, Bool, true, ⊤, if◌then◌else◌, List, [], ◌∷◌, ◌++◌}
+use Rattle.std.specs.Prelude.{length, codes, decimal, Option, Some, None, is_some, option_and_then, unwrap_or, false}
 use Rattle.std.specs.Option.{option_map}
 use Rattle.station_core.specs.declared.ports.InPort.TheVariants as ins
 use Rattle.mode_set.specs.declared.modes.Stream.{Stream}
@@ -53,7 +54,12 @@ cells_sent s limit inputs = sent_by s limit inputs (first_refusal s limit inputs
 
 -- the counts: the packets of the streams, and the super-frames (endless work has none, and is refused)
 abbrev pub transmission_counts : TheSettings → (Stream → List ℕ) → TransmissionCounts
-transmission_counts s files = record { hp = counts_of (files Hp); lp = counts_of (files Lp); super_frames = unwrap_or (super_frames s (λ σ. length (inputs_of files σ))) 0 }
+transmission_counts s files = record {
+  hp = counts_of (files Hp);
+  lp = counts_of (files Lp);
+  super_frames = unwrap_or
+      (super_frames s (λ σ. length (inputs_of files σ))) 0;
+}
 
 -- the closing line for the super-frames
 abbrev pub super_frames_line : ℕ → List ℕ
@@ -62,11 +68,13 @@ super_frames_line n = codes "superframes " ++ decimal n ++ codes "\n"
 -- the closing lines of a modulation, with LP or without
 abbrev pub transmission_lines : Bool → TransmissionCounts → List ℕ
 transmission_lines two counts =
-    packets_line Hp counts.hp ++ ((if two then packets_line Lp counts.lp else []) ++ super_frames_line counts.super_frames)
+    packets_line Hp counts.hp ++ ((if two then packets_line Lp counts.lp else [])
+    ++ super_frames_line counts.super_frames)
 
 -- the lines printed: the closing lines, or none if there is a refusal
 abbrev pub modulation_lines : TheSettings → ℕ → Bool → (Stream → List ℕ) → List ℕ
-modulation_lines s limit two files = if is_some (modulation_refusal s limit (inputs_of files)) then [] else transmission_lines two (transmission_counts s files)
+modulation_lines s limit two files = if is_some (modulation_refusal s limit (inputs_of files)) then [] else
+    transmission_lines two (transmission_counts s files)
 
 -- the bytes left unread of the file of a stream
 abbrev pub left_unread : Unread → Stream → List ℕ
@@ -78,7 +86,8 @@ taken_of files left σ = (length (files σ) - length (left σ)) / 188
 
 -- After a failed read Cells holds its header and as many symbols as the whole packets taken suffice for; null packets
 -- follow an input whose end was reached. Nothing before them is refused.
-pub record HoldsSymbolsSoFar (s : TheSettings) (limit : ℕ) (files left : Stream → List ℕ) (written : List ℕ) : Type 0 where
+pub record HoldsSymbolsSoFar (s : TheSettings) (limit : ℕ) (files left : Stream → List ℕ) (written : List ℕ) : Type
+    0 where
   pub met : Stream → Bool
   pub at_end : (σ : Stream) → met σ ≡ true → left σ ≡ []
   -- Of the streams with nothing left, at most one has not reached its end: the one whose read failed, if that read
@@ -105,12 +114,17 @@ modulate_command settings hp lp cells = record {
   LacksAtWork = λ limit file unread. ⊥;
   early_refusal = λ file. fitting_refusal (file settings) lp;
   header = λ file. None;
-  work_refusal = λ limit file. option_and_then (λ s. modulation_refusal s limit (inputs_of (files_of file hp lp))) (settings_of (file settings));
-  most_taken = λ limit file. by_input (most_settings + 1) (most_packets_taken limit (file hp)) (most_packets_taken limit (named file lp)) 0;
-  Comes = λ limit file port bytes. (s : TheSettings) × (settings_of (file settings) ≡ Some s) × (bytes ≡ cells_sent s limit (inputs_of (files_of file hp lp)));
-  Prints = λ limit file lines. (s : TheSettings) × (settings_of (file settings) ≡ Some s) × (lines ≡ modulation_lines s limit (is_some lp) (files_of file hp lp));
+  work_refusal = λ limit file. option_and_then (λ s. modulation_refusal s limit (inputs_of (files_of file hp lp)))
+      (settings_of (file settings));
+  most_taken = λ limit file. by_input (most_settings + 1) (most_packets_taken limit (file hp))
+      (most_packets_taken limit (named file lp)) 0;
+  Comes = λ limit file port bytes. (s : TheSettings) × (settings_of (file settings) ≡ Some s)
+      × (bytes ≡ cells_sent s limit (inputs_of (files_of file hp lp)));
+  Prints = λ limit file lines. (s : TheSettings) × (settings_of (file settings) ≡ Some s)
+      × (lines ≡ modulation_lines s limit (is_some lp) (files_of file hp lp));
   ComesSoFar = λ limit file unread port bytes.
-      (s : TheSettings) × (settings_of (file settings) ≡ Some s) × HoldsSymbolsSoFar s limit (files_of file hp lp) (left_unread unread) bytes;
+      (s : TheSettings) × (settings_of (file settings) ≡ Some s)
+      × HoldsSymbolsSoFar s limit (files_of file hp lp) (left_unread unread) bytes;
   PrintsSoFar = λ limit file unread lines. lines ≡ [];
   Own = λ limit file. ⊤;
 }

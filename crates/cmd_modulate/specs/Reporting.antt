@@ -8,7 +8,8 @@ use Rattle.cmd_modulate.specs.declared.counts.TransmissionCounts.{TransmissionCo
 use Rattle.cmd_modulate.specs.ModulateCommand.{transmission_lines}
 
 -- the closing lines are written to Report, and Cells is closed, even if that failed
-pub record Finishes (two : Bool) (counts : TransmissionCounts) (old new : Meaning) (result : Result TransmissionCounts Refusal) : Type 0 where
+pub record Finishes (two : Bool) (counts : TransmissionCounts) (old new : Meaning)
+    (result : Result TransmissionCounts Refusal) : Type 0 where
   pub others : new ≡ record old {
     cells_out = record old.cells_out { closed = true };
     report = record old.report { written = new.report.written };
@@ -17,7 +18,8 @@ pub record Finishes (two : Bool) (counts : TransmissionCounts) (old new : Meanin
     report_faults = new.report_faults;
   }
   pub later_report : old.report_faults ≤ new.report_faults
-  pub written : old.tells ≡ true → IsFrontOf (transmission_lines two counts) old.report.written new.report.written result
+  pub written : old.tells ≡ true → IsFrontOf (transmission_lines two counts) old.report.written new.report.written
+      result
 
 -- it returns the counts, or a write fault
 abbrev pub IsFinish : TransmissionCounts → Result TransmissionCounts Refusal → Type 0

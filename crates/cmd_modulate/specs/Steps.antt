@@ -1,6 +1,7 @@
 -- The steps of a modulation after its settings, each as a relation of the station before and after it. They imply the
 -- promise of the run.
-use Rattle.std.specs.Prelude.{◌≡◌, ◌⊎◌, ◌≤◌, ℕ, Bool, true, false, if◌then◌else◌, List, [], ◌++◌, take, Result, Ok, Err, Option, Some, None, is_some, IsSomeAnd}
+use Rattle.std.specs.Prelude.{◌≡◌, ◌⊎◌, ◌≤◌, ℕ, Bool, true, false, if◌then◌else◌, List, [], ◌++◌, take, Result, Ok, Err}
+use Rattle.std.specs.Prelude.{Option, Some, None, is_some, IsSomeAnd}
 use Rattle.station_core.specs.Meaning.{Meaning, Source, asked_source, asked_sink}
 use Rattle.station_core.specs.declared.station.Failed.{Failed}
 use Rattle.mode_set.specs.declared.modes.Stream.{Stream}
@@ -34,7 +35,11 @@ pub record IsNew (t : Seen) : Type 0 where
 
 -- the inputs before the first packet, of both streams or only of HP
 abbrev pub first_inputs : Bool → PacketInputs
-first_inputs two = record { hp = record { taken = 0; tail = None }; lp = if two then record { taken = 0; tail = None } else record { taken = 0; tail = Some 0 } }
+first_inputs two = record {
+  hp = record { taken = 0; tail = None };
+  lp
+      = if two then record { taken = 0; tail = None } else record { taken = 0; tail = Some 0 };
+}
 
 -- the source of LP once its file is opened, if there is one
 abbrev pub lp_source : Option (List ℕ) → Meaning → Source
@@ -48,7 +53,8 @@ hp_source name m = record { asked = Some name; attached = true; left = m.file na
 -- LP was opened, if there is LP, or its file could not be
 abbrev pub OpensLp : Option (List ℕ) → Meaning → Meaning → Result (Unit {0}) Failed → Type 0
 OpensLp lp old new (Ok u) = new ≡ record old { lp = lp_source lp old }
-OpensLp lp old new (Err failed) = IsSomeAnd lp (λ name. new ≡ record old { lp = asked_source name old.lp; read_faults = new.read_faults })
+OpensLp lp old new (Err failed) = IsSomeAnd lp (λ name. new ≡ record old
+    { lp = asked_source name old.lp; read_faults = new.read_faults })
 
 -- HP could not be opened, and nothing else was requested
 abbrev pub FailsAtHp : List ℕ → Meaning → Meaning → Type 0
@@ -56,12 +62,19 @@ FailsAtHp hp old new = new ≡ record old { hp = asked_source hp old.hp; read_fa
 
 -- HP was opened, and LP could not be
 abbrev pub FailsAtLp : List ℕ → Option (List ℕ) → Meaning → Meaning → Type 0
-FailsAtLp hp lp old new = IsSomeAnd lp (λ name. new ≡ record old { hp = hp_source hp old; lp = asked_source name old.lp; read_faults = new.read_faults })
+FailsAtLp hp lp old new = IsSomeAnd lp (λ name. new ≡ record old
+    { hp = hp_source hp old; lp = asked_source name old.lp; read_faults = new.read_faults })
 
 -- the inputs were opened, and Cells could not be created
 abbrev pub FailsAtCells : List ℕ → Option (List ℕ) → List ℕ → Meaning → Meaning → Type 0
 FailsAtCells hp lp cells old new =
-    new ≡ record old { hp = hp_source hp old; lp = lp_source lp old; cells_out = asked_sink cells old.cells_out; write_faults = new.write_faults }
+    new ≡ record old {
+      hp = hp_source hp old;
+      lp = lp_source lp old;
+      cells_out
+          = asked_sink cells old.cells_out;
+      write_faults = new.write_faults;
+    }
 
 -- the ports were opened in order, HP before LP and Cells last, or one was not
 abbrev pub OpensAll : List ℕ → Option (List ℕ) → List ℕ → Meaning → Meaning → Result (Unit {0}) Refusal → Type 0
@@ -98,15 +111,19 @@ HasPrinted lines old new (Err WriteFault) = (k : ℕ) × (new.report.written ≡
 HasPrinted lines old new (Err refusal) = new.report.written ≡ old.report.written
 
 -- the work was begun, with this result
-pub record Worked (s : TheSettings) (limit : ℕ) (hp : List ℕ) (lp : Option (List ℕ)) (cells : List ℕ) (old new : Meaning) (result : Result TransmissionCounts Refusal) : Type 0 where
+pub record Worked (s : TheSettings) (limit : ℕ) (hp : List ℕ) (lp : Option (List ℕ)) (cells : List ℕ)
+    (old new : Meaning) (result : Result TransmissionCounts Refusal) : Type 0 where
   pub ports : IsClosed hp lp cells old new
   pub modulates : old.tells ≡ true → Modulates s limit (files_of old.file hp lp) new result
-  pub printed : old.tells ≡ true → HasPrinted (modulation_lines s limit (is_some lp) (files_of old.file hp lp)) old new result
+  pub printed : old.tells ≡ true → HasPrinted (modulation_lines s limit (is_some lp) (files_of old.file hp lp)) old new
+      result
 
 -- the state after a run, by its outcome: the work was begun, or a port was not opened
-abbrev pub Ran : TheSettings → ℕ → List ℕ → Option (List ℕ) → List ℕ → Meaning → Meaning → Result TransmissionCounts Refusal → Type 0
+abbrev pub Ran : TheSettings → ℕ → List ℕ → Option (List ℕ) → List ℕ → Meaning → Meaning
+    → Result TransmissionCounts Refusal → Type 0
 Ran s limit hp lp cells old new (Ok counts) = Worked s limit hp lp cells old new (Ok counts)
-Ran s limit hp lp cells old new (Err refusal) = OpensAll hp lp cells old new (Err refusal) ⊎ Worked s limit hp lp cells old new (Err refusal)
+Ran s limit hp lp cells old new (Err refusal) = OpensAll hp lp cells old new (Err refusal)
+    ⊎ Worked s limit hp lp cells old new (Err refusal)
 
 -- every packet sent is accepted
 abbrev pub IsAccepted : TheSettings → ℕ → (Stream → List ℕ) → Type 0
@@ -135,7 +152,8 @@ Tells mid new (Ok counts) = new ≡ mid
 Tells mid new (Err refusal) = WritesText (refusal_text refusal) mid new
 
 -- a run has one outcome, which determines the status, the ports and the report
-pub record RunsModulation (s : TheSettings) (limit : ℕ) (hp : List ℕ) (lp : Option (List ℕ)) (cells : List ℕ) (old new : Meaning) (status : ℕ) : Type 0 where
+pub record RunsModulation (s : TheSettings) (limit : ℕ) (hp : List ℕ) (lp : Option (List ℕ)) (cells : List ℕ)
+    (old new : Meaning) (status : ℕ) : Type 0 where
   pub outcome : Result TransmissionCounts Refusal
   pub mid : Meaning
   pub status_is : status ≡ outcome_status outcome

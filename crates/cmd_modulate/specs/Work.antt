@@ -1,5 +1,6 @@
 -- The work of a modulation, symbol by symbol.
-use Rattle.std.specs.Prelude.{◌≡◌, ◌≢◌, ◌⊎◌, ℕ, ◌-◌, ◌*◌, ◌/◌, ◌<◌, ◌≤◌, List, [], ◌++◌, length, take, drop, true, Option, Some, None, is_some, Result, Ok, Err}
+use Rattle.std.specs.Prelude.{◌≡◌, ◌≢◌, ◌⊎◌, ℕ, ◌-◌, ◌*◌, ◌/◌, ◌<◌, ◌≤◌, List, [], ◌++◌, length, take, drop, true}
+use Rattle.std.specs.Prelude.{Option, Some, None, is_some, Result, Ok, Err}
 use Rattle.std.specs.Option.{option_map}
 use Rattle.station_core.specs.Meaning.{Meaning}
 use Rattle.mode_set.specs.declared.modes.Stream.{Stream}
@@ -13,7 +14,8 @@ use Rattle.transmission.specs.AgendaLaws.{IsAt}
 use Rattle.cmd_base.specs.declared.refusal.Refusal.{Refusal}
 use Rattle.cmd_base.specs.declared.refusal.Refusal.TheVariants.{ReadFault, WriteFault}
 use Rattle.cmd_base.specs.Packets.{most_packets_taken}
-use Rattle.cmd_modulate.specs.ModulateCommand.{HoldsSymbolsSoFar, cells_sent, inputs_of, modulation_refusal, refused_by, transmission_counts, file_of_symbols}
+use Rattle.cmd_modulate.specs.ModulateCommand.{HoldsSymbolsSoFar, cells_sent, inputs_of, modulation_refusal, refused_by}
+use Rattle.cmd_modulate.specs.ModulateCommand.{transmission_counts, file_of_symbols}
 use Rattle.cmd_modulate.specs.declared.counts.TransmissionCounts.{TransmissionCounts}
 use Rattle.cmd_modulate.specs.declared.inputs.PacketInputs.{PacketInputs}
 use Rattle.cmd_modulate.specs.declared.input.PacketInput.{PacketInput}
@@ -32,7 +34,12 @@ pub record AreWithin (limit : ℕ) (inputs : PacketInputs) : Type 0 where
 
 -- only the bytes left of the inputs and the count of read faults have changed
 abbrev pub KeepsOutputs : Meaning → Meaning → Type 0
-KeepsOutputs old new = new ≡ record old { hp = record old.hp { left = new.hp.left }; lp = record old.lp { left = new.lp.left }; read_faults = new.read_faults }
+KeepsOutputs old new = new ≡ record old {
+  hp = record old.hp { left = new.hp.left };
+  lp = record old.lp
+      { left = new.lp.left };
+  read_faults = new.read_faults;
+}
 
 -- only the bytes left of the inputs, the bytes written and pending at Cells, and the counts of faults have changed
 abbrev pub KeepsOthers : Meaning → Meaning → Type 0
@@ -79,15 +86,19 @@ pub record TakeFew (limit : ℕ) (files left : Stream → List ℕ) : Type 0 whe
 -- the next packet of a stream, or why there is none
 abbrev pub GivesOf : ℕ → (Stream → List ℕ) → Stream → Seen → Meaning → PacketInputs → Result (List ℕ) Refusal → Type 0
 GivesOf limit files σ t m inputs (Ok packet) =
-    (packet ≡ packet_at (inputs_of files σ) (by_stream t.hp t.lp σ)) × (packet_refusal limit (inputs_of files) σ (by_stream t.hp t.lp σ) ≡ None)
+    (packet ≡ packet_at (inputs_of files σ) (by_stream t.hp t.lp σ))
+    × (packet_refusal limit (inputs_of files) σ (by_stream t.hp t.lp σ) ≡ None)
     × BothRead files m inputs (with_one σ t)
-GivesOf limit files σ t m inputs (Err ReadFault) = ((by_stream inputs.hp inputs.lp σ).tail ≡ None) × BothTell files m inputs t × AreNear files m t
+GivesOf limit files σ t m inputs (Err ReadFault) = ((by_stream inputs.hp inputs.lp σ).tail ≡ None)
+    × BothTell files m inputs t × AreNear files m t
 GivesOf limit files σ t m inputs (Err refusal) =
-    (option_map refused_by (packet_refusal limit (inputs_of files) σ (by_stream t.hp t.lp σ)) ≡ Some refusal) × AreNear files m t
+    (option_map refused_by (packet_refusal limit (inputs_of files) σ (by_stream t.hp t.lp σ)) ≡ Some refusal)
+    × AreNear files m t
 
 -- The work is at a point of its order before any refusal, and the transmitter has had the packets of both inputs as far
 -- as they were read.
-pub record IsAtWork (limit : ℕ) (files : Stream → List ℕ) (m : Meaning) (inputs : PacketInputs) (t : Seen) (put : Inputs → Type 0) : Type 0 where
+pub record IsAtWork (limit : ℕ) (files : Stream → List ℕ) (m : Meaning) (inputs : PacketInputs) (t : Seen)
+    (put : Inputs → Type 0) : Type 0 where
   pub at : IsAt t.settings limit (inputs_of files) t.made t.hp t.lp
   pub stands : put (inputs_of files)
   pub read : BothRead files m inputs t
@@ -99,13 +110,16 @@ pub record IsDue (files : Stream → List ℕ) (t : Seen) : Type 0 where
 
 -- why the work stops before a symbol: the first refusal of all, or a failed read
 abbrev pub Stops : ℕ → (Stream → List ℕ) → Meaning → Seen → Refusal → Type 0
-Stops limit files m t ReadFault = HoldsSymbolsSoFar t.settings limit files (left_of m) (file_of_symbols t.settings (inputs_of files) t.made)
+Stops limit files m t ReadFault = HoldsSymbolsSoFar t.settings limit files (left_of m) (file_of_symbols t.settings
+    (inputs_of files) t.made)
 Stops limit files m t WriteFault = ⊥
 Stops limit files m t refusal =
-    (modulation_refusal t.settings limit (inputs_of files) ≡ Some refusal) × (cells_sent t.settings limit (inputs_of files) ≡ file_of_symbols t.settings (inputs_of files) t.made)
+    (modulation_refusal t.settings limit (inputs_of files) ≡ Some refusal)
+    × (cells_sent t.settings limit (inputs_of files) ≡ file_of_symbols t.settings (inputs_of files) t.made)
 
 -- the work continues or stops
-abbrev pub GoesOn : ℕ → (Stream → List ℕ) → Meaning → PacketInputs → Seen → (Inputs → Type 0) → Result (Unit {0}) Refusal → Type 0
+abbrev pub GoesOn : ℕ → (Stream → List ℕ) → Meaning → PacketInputs → Seen → (Inputs → Type 0)
+    → Result (Unit {0}) Refusal → Type 0
 GoesOn limit files m inputs t put (Ok u) = IsAtWork limit files m inputs t put
 GoesOn limit files m inputs t put (Err refusal) = Stops limit files m t refusal × TakeFew limit files (left_of m)
 
@@ -114,38 +128,50 @@ abbrev pub Ends : Settings → ℕ → (Stream → List ℕ) → Meaning → Ref
 Ends s limit files m ReadFault = HoldsSymbolsSoFar s limit files (left_of m) m.cells_out.written
 Ends s limit files m WriteFault = (k : ℕ) × (m.cells_out.written ≡ take k (cells_sent s limit (inputs_of files)))
 Ends s limit files m refusal =
-    (modulation_refusal s limit (inputs_of files) ≡ Some refusal) × (m.cells_out.written ≡ cells_sent s limit (inputs_of files))
+    (modulation_refusal s limit (inputs_of files) ≡ Some refusal)
+    × (m.cells_out.written ≡ cells_sent s limit (inputs_of files))
 
 -- only the bytes written and pending at Cells, and the count of write faults have changed
 abbrev pub WritesCells : Meaning → Meaning → Type 0
-WritesCells old new = new ≡ record old { cells_out = record old.cells_out { written = new.cells_out.written }; write_faults = new.write_faults; pending = new.pending }
+WritesCells old new = new ≡ record old {
+  cells_out = record old.cells_out { written = new.cells_out.written };
+  write_faults = new.write_faults;
+  pending = new.pending;
+}
 
 -- these bytes were written, or a prefix of them
 abbrev pub WritesBytes : List ℕ → Meaning → Meaning → Result (Unit {0}) Refusal → Type 0
 WritesBytes bytes old new (Ok u) = new.cells_out.written ≡ old.cells_out.written ++ bytes
-WritesBytes bytes old new (Err refusal) = (refusal ≡ WriteFault) × (k : ℕ) × (new.cells_out.written ≡ old.cells_out.written ++ take k bytes)
+WritesBytes bytes old new (Err refusal) = (refusal ≡ WriteFault) × (k : ℕ)
+    × (new.cells_out.written ≡ old.cells_out.written ++ take k bytes)
 
 -- the header and the symbols made were written
-pub record IsWritten (limit : ℕ) (files : Stream → List ℕ) (m : Meaning) (inputs : PacketInputs) (t : Seen) (put : Inputs → Type 0) : Type 0 where
+pub record IsWritten (limit : ℕ) (files : Stream → List ℕ) (m : Meaning) (inputs : PacketInputs) (t : Seen)
+    (put : Inputs → Type 0) : Type 0 where
   pub work : IsAtWork limit files m inputs t put
   pub written : m.cells_out.written ≡ file_of_symbols t.settings (inputs_of files) t.made
 
 -- one more symbol, or a refusal
-abbrev pub Sends : ℕ → (Stream → List ℕ) → Meaning → PacketInputs → Seen → (Inputs → Type 0) → Result (Unit {0}) Refusal → Type 0
+abbrev pub Sends : ℕ → (Stream → List ℕ) → Meaning → PacketInputs → Seen → (Inputs → Type 0) → Result (Unit {0}) Refusal
+    → Type 0
 Sends limit files m inputs t put (Ok u) = IsWritten limit files m inputs t put
 Sends limit files m inputs t put (Err refusal) = Ends t.settings limit files m refusal × TakeFew limit files (left_of m)
 
 -- the counts, once all inputs have ended and exactly their super-frames were sent
 abbrev pub CountsAt : Settings → PacketInputs → ℕ → Option TransmissionCounts → Type 0
 CountsAt s inputs symbols (Some counts) =
-    (inputs.hp.tail ≡ Some counts.hp.tail) × (counts.hp.packets ≡ inputs.hp.taken) × (inputs.lp.tail ≡ Some counts.lp.tail) × (counts.lp.packets ≡ inputs.lp.taken)
-    × (super_frames s (by_stream inputs.hp.taken inputs.lp.taken) ≡ Some counts.super_frames) × (symbols ≡ 272 * counts.super_frames)
+    (inputs.hp.tail ≡ Some counts.hp.tail) × (counts.hp.packets ≡ inputs.hp.taken)
+    × (inputs.lp.tail ≡ Some counts.lp.tail) × (counts.lp.packets ≡ inputs.lp.taken)
+    × (super_frames s (by_stream inputs.hp.taken inputs.lp.taken) ≡ Some counts.super_frames)
+    × (symbols ≡ 272 * counts.super_frames)
 CountsAt s inputs symbols None =
-    (inputs.hp.tail ≡ None) ⊎ ((inputs.lp.tail ≡ None) ⊎ ((n : ℕ) → super_frames s (by_stream inputs.hp.taken inputs.lp.taken) ≡ Some n → symbols ≢ 272 * n))
+    (inputs.hp.tail ≡ None) ⊎ ((inputs.lp.tail ≡ None) ⊎ ((n : ℕ) → super_frames s
+    (by_stream inputs.hp.taken inputs.lp.taken) ≡ Some n → symbols ≢ 272 * n))
 
 -- the whole work
 abbrev pub Modulates : Settings → ℕ → (Stream → List ℕ) → Meaning → Result TransmissionCounts Refusal → Type 0
 Modulates s limit files m (Ok counts) =
     (counts ≡ transmission_counts s files) × (left_of m Hp ≡ []) × (left_of m Lp ≡ [])
-    × (modulation_refusal s limit (inputs_of files) ≡ None) × (m.cells_out.written ≡ cells_sent s limit (inputs_of files)) × TakeFew limit files (left_of m)
+    × (modulation_refusal s limit (inputs_of files) ≡ None) × (m.cells_out.written ≡ cells_sent s limit
+    (inputs_of files)) × TakeFew limit files (left_of m)
 Modulates s limit files m (Err refusal) = Ends s limit files m refusal × TakeFew limit files (left_of m)

@@ -8,10 +8,9 @@ ghost use Rattle.cmd_modulate.specs.ModulateCommand.{modulate_command};
 ghost use Rattle.cmd_modulate.specs.Steps.{IsReady, RunsOrLacks};
 
 use crate::run::{Names, run_modulation};
+use cmd_base::{Limits, Refusal, read_fitting, refuse};
 use mode_set::{Carriers, Mode, Mode2k, Mode8k, Settings};
 use modulator::Modulator;
-use cmd_base::{Limits, Refusal};
-use cmd_base::{read_fitting, refuse};
 use station_core::Station;
 use std::alloc::Global;
 
@@ -27,7 +26,8 @@ fn modulate_in<'a, M: Carriers, S: Station<'a>>(
     requires form { fits_form settings.now (option_copied names.lp) ≡ true }
     requires few { limits.now.packets ≤ 100000000 }
     requires ready { IsReady (S.meaning station.old) }
-    ensures { RunsOrLacks settings.now limits.now.packets names.entry.hp.now (option_copied names.entry.lp) names.entry.cells.now (S.meaning station.old) (S.meaning station.new) result }
+    ensures { RunsOrLacks settings.now limits.now.packets names.entry.hp.now (option_copied names.entry.lp)
+        names.entry.cells.now (S.meaning station.old) (S.meaning station.new) result }
 {
     let Ok(mut bytes) = vec![in alloc; 0u8; 5 * M::K as usize] else {
         return refuse(&Refusal::Memory, station);
@@ -50,7 +50,8 @@ fn modulate_accepted<'a, S: Station<'a>>(
     requires form { fits_form settings.now (option_copied names.lp) ≡ true }
     requires few { limits.now.packets ≤ 100000000 }
     requires ready { IsReady (S.meaning station.old) }
-    ensures { RunsOrLacks settings.now limits.now.packets names.entry.hp.now (option_copied names.entry.lp) names.entry.cells.now (S.meaning station.old) (S.meaning station.new) result }
+    ensures { RunsOrLacks settings.now limits.now.packets names.entry.hp.now (option_copied names.entry.lp)
+        names.entry.cells.now (S.meaning station.old) (S.meaning station.new) result }
 {
     match settings.mode {
         Mode::M2k => modulate_in::<Mode2k, S>(alloc, settings, names, limits, station),
@@ -72,7 +73,8 @@ pub fn modulate<'a, S: Station<'a>>(
 ) -> u8
     requires fresh { IsFresh (S.meaning station.old) }
     requires few { limits.now.packets ≤ 100000000 }
-    ensures { Run (modulate_command settings.now hp.now (option_copied lp.entry) cells.now) limits.now.packets (S.meaning station.old) (S.meaning station.new) result }
+    ensures { Run (modulate_command settings.now hp.now (option_copied lp.entry) cells.now) limits.now.packets
+        (S.meaning station.old) (S.meaning station.new) result }
 {
     match read_fitting(alloc, settings, lp, station) {
         Ok(accepted) => {

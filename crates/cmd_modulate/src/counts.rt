@@ -2,8 +2,8 @@
 ghost use Rattle.std.specs.Prelude.{◌≡◌, ◌<◌, length};
 ghost use Rattle.cmd_modulate.specs.ModulateCommand.{super_frames_line};
 
-use rx_report::{Line, push_count};
 use cmd_base::Counts;
+use rx_report::{Line, push_count};
 
 /// The counts of a modulation.
 #[derive(Clone, Copy, Debug, PartialEq, Eq)]

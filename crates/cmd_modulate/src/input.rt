@@ -6,9 +6,8 @@ ghost use Rattle.cmd_base.specs.Causes.{HasCause};
 ghost use Rattle.cmd_base.specs.Reading.{ReadsFront};
 ghost use Rattle.cmd_modulate.specs.Inputs.{Gives, IsTaking, Reads, ReadsAt, left_of, port_of};
 
+use cmd_base::{Refusal, fill};
 use mode_set::Stream;
-use cmd_base::Refusal;
-use cmd_base::fill;
 use station_core::{InPort, Station};
 use ts_packet::{PACKET_LEN, Packet};
 
@@ -65,7 +64,8 @@ impl PacketInput {
         ensures few { self.new.taken ≤ limit }
         ensures met { self.new.tail ≡ None → self.old.tail ≡ None }
         ensures cause { IsTaking result }
-        ensures gives { (files : AnyStream → List ℕ) (put : ℕ) (left : List ℕ) → self.old.tail ≡ None → Reads (files stream) left self.old put
+        ensures gives { (files : AnyStream → List ℕ) (put : ℕ) (left : List ℕ) → self.old.tail ≡ None
+            → Reads (files stream) left self.old put
             → ReadsFront left 188 filled bytes.now → Gives limit files stream put (drop filled left) self.new result }
     {
         if filled < PACKET_LEN {
@@ -94,13 +94,15 @@ impl PacketInput {
         limit: u64,
         station: &mut S,
     ) -> Result<Packet, Refusal>
-        requires attached { self.old.tail ≡ None → (source_at (port_of stream) (S.meaning station.old)).attached ≡ true }
+        requires attached { self.old.tail ≡ None → (source_at (port_of stream) (S.meaning station.old)).attached
+            ≡ true }
         requires few { self.old.taken ≤ limit }
         ensures few { self.new.taken ≤ limit }
         ensures met { self.new.tail ≡ None → self.old.tail ≡ None }
         ensures others { ReadsAt stream (S.meaning station.old) (S.meaning station.new) }
         ensures cause { HasCause (S.meaning station.old) (S.meaning station.new) result }
-        ensures gives { IsTrue (S.meaning station.old).tells → (files : AnyStream → List ℕ) (put : ℕ) → Reads (files stream) (left_of (S.meaning station.old) stream) self.old put
+        ensures gives { IsTrue (S.meaning station.old).tells → (files : AnyStream → List ℕ) (put : ℕ)
+            → Reads (files stream) (left_of (S.meaning station.old) stream) self.old put
             → Gives limit files stream put (left_of (S.meaning station.new) stream) self.new result }
     {
         if self.tail.is_some() {

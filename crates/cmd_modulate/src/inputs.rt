@@ -4,13 +4,14 @@ ghost use Rattle.mode_set.specs.declared.modes.Stream.{Stream as AnyStream};
 ghost use Rattle.cmd_base.specs.Causes.{HasCause};
 ghost use Rattle.cmd_modulate.specs.Seen.{Seen, wanted, with_one};
 ghost use Rattle.cmd_modulate.specs.Steps.{first_inputs};
-ghost use Rattle.cmd_modulate.specs.Work.{AreOpen, AreWithin, BothRead, CountsAt, GivesOf, GoesOn, IsAtWork, IsDue, KeepsOutputs};
+ghost use Rattle.cmd_modulate.specs.Work.{AreOpen, AreWithin, BothRead, CountsAt, GivesOf, GoesOn, IsAtWork, IsDue};
+ghost use Rattle.cmd_modulate.specs.Work.{KeepsOutputs};
 
 use crate::counts::TransmissionCounts;
 use crate::input::PacketInput;
 use crate::transmitter::Transmitter;
-use mode_set::{Settings, Stream};
 use cmd_base::{Counts, Refusal};
+use mode_set::{Settings, Stream};
 use station_core::Station;
 use transmission::laws::work;
 use ts_packet::Packet;
@@ -52,7 +53,8 @@ impl PacketInputs {
         ensures met { self.new.lp.tail ≡ None → self.old.lp.tail ≡ None }
         ensures others { KeepsOutputs (S.meaning station.old) (S.meaning station.new) }
         ensures cause { HasCause (S.meaning station.old) (S.meaning station.new) result }
-        ensures gives { IsTrue (S.meaning station.old).tells → (files : AnyStream → List ℕ) (t : Seen) → BothRead files (S.meaning station.old) self.old t
+        ensures gives { IsTrue (S.meaning station.old).tells → (files : AnyStream → List ℕ) (t : Seen)
+            → BothRead files (S.meaning station.old) self.old t
             → GivesOf limit files stream t (S.meaning station.new) self.new result }
     {
         match stream {
@@ -79,7 +81,8 @@ impl PacketInputs {
         ensures cause { HasCause (S.meaning station.old) (S.meaning station.new) result }
         ensures seen { OnOk result (T.seen tx.new ≡ with_one stream (T.seen tx.old)) }
         ensures kept { OnErr result (T.seen tx.new ≡ T.seen tx.old) }
-        ensures works { IsTrue (S.meaning station.old).tells → (files : AnyStream → List ℕ) → IsDue files (T.seen tx.old)
+        ensures works { IsTrue (S.meaning station.old).tells → (files : AnyStream → List ℕ)
+            → IsDue files (T.seen tx.old)
             → IsAtWork limit files (S.meaning station.old) self.old (T.seen tx.old) (T.stands tx.old)
             → GoesOn limit files (S.meaning station.new) self.new (T.seen tx.new) (T.stands tx.new) result }
     {

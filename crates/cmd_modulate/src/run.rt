@@ -12,9 +12,8 @@ use crate::inputs::PacketInputs;
 use crate::steps::{close_refused, finish, open};
 use crate::symbols::send_file;
 use crate::transmitter::Transmitter;
+use cmd_base::{Limits, Refusal, refuse};
 use mode_set::Settings;
-use cmd_base::{Limits, Refusal};
-use cmd_base::refuse;
 use station_core::Station;
 use transmission::laws::{symbols, work};
 
@@ -46,8 +45,12 @@ fn modulate_all<'a, T: Transmitter, S: Station<'a>>(
     requires stands { (inputs : Inputs) → T.stands tx.old inputs }
     requires long { length bytes.old ≡ T.symbol_len }
     requires some { 0 < T.symbol_len }
-    ensures cause { HasEndCause ((S.meaning station.old).tells ≡ true → IsAccepted (T.seen tx.old).settings limits.now.packets (files_of (S.meaning station.old).file names.entry.hp.now (option_copied names.entry.lp))) (S.meaning station.old) (S.meaning station.new) result }
-    ensures ran { Ran (T.seen tx.old).settings limits.now.packets names.entry.hp.now (option_copied names.entry.lp) names.entry.cells.now (S.meaning station.old) (S.meaning station.new) result }
+    ensures cause { HasEndCause ((S.meaning station.old).tells ≡ true
+        → IsAccepted (T.seen tx.old).settings limits.now.packets
+        (files_of (S.meaning station.old).file names.entry.hp.now (option_copied names.entry.lp)))
+        (S.meaning station.old) (S.meaning station.new) result }
+    ensures ran { Ran (T.seen tx.old).settings limits.now.packets names.entry.hp.now (option_copied names.entry.lp)
+        names.entry.cells.now (S.meaning station.old) (S.meaning station.new) result }
 {
     work();
     symbols();
@@ -84,7 +87,8 @@ pub(crate) fn run_modulation<'a, T: Transmitter, S: Station<'a>>(
     requires stands { (inputs : Inputs) → T.stands tx.old inputs }
     requires long { length bytes.old ≡ T.symbol_len }
     requires some { 0 < T.symbol_len }
-    ensures runs { RunsModulation (T.seen tx.old).settings limits.now.packets names.entry.hp.now (option_copied names.entry.lp) names.entry.cells.now (S.meaning station.old) (S.meaning station.new) result }
+    ensures runs { RunsModulation (T.seen tx.old).settings limits.now.packets names.entry.hp.now
+        (option_copied names.entry.lp) names.entry.cells.now (S.meaning station.old) (S.meaning station.new) result }
 {
     match modulate_all(names, limits, settings, tx, bytes, station) {
         Ok(_) => 0,

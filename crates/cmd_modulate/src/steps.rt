@@ -11,9 +11,8 @@ ghost use Rattle.cmd_modulate.specs.Reporting.{Finishes, IsFinish};
 ghost use Rattle.cmd_modulate.specs.Steps.{ClosesOutput, ClosesRefused, OpensAll, OpensLp};
 
 use crate::counts::{TransmissionCounts, super_frames_line_of};
+use cmd_base::{Counts, Refusal, packets_line_of, settle, write_line};
 use mode_set::Stream;
-use cmd_base::{Counts, Refusal, packets_line_of};
-use cmd_base::{settle, write_line};
 use station_core::{Failed, InPort, OutPort, Station};
 
 // Opens the file of LP for reading, if there is one.
@@ -40,7 +39,8 @@ pub(crate) fn open<'a, S: Station<'a>>(
     requires lp { (S.meaning station.old).lp.asked ≡ None }
     requires cells { (S.meaning station.old).cells_out.asked ≡ None }
     ensures cause { HasCause (S.meaning station.old) (S.meaning station.new) result }
-    ensures opened { OpensAll hp.now (option_copied lp.entry) cells.now (S.meaning station.old) (S.meaning station.new) result }
+    ensures opened { OpensAll hp.now (option_copied lp.entry) cells.now (S.meaning station.old) (S.meaning station.new)
+        result }
 {
     if station.attach(InPort::Hp, hp).is_err() {
         return Err(Refusal::ReadFault);
@@ -64,7 +64,8 @@ fn write_lp_line<'a, S: Station<'a>>(
     requires report_open { (S.meaning station.old).report.closed ≡ false }
     ensures cause { HasCause (S.meaning station.old) (S.meaning station.new) result }
     ensures kind { IsWriting result }
-    ensures writes { WritesLines (if two then packets_line Lp counts.now else []) (S.meaning station.old) (S.meaning station.new) result }
+    ensures writes { WritesLines (if two then packets_line Lp counts.now else []) (S.meaning station.old)
+        (S.meaning station.new) result }
 {
     if two {
         write_line(&packets_line_of(Stream::Lp, counts), station)
@@ -83,7 +84,8 @@ fn write_lp_and_frames<'a, S: Station<'a>>(
     requires report_open { (S.meaning station.old).report.closed ≡ false }
     ensures cause { HasCause (S.meaning station.old) (S.meaning station.new) result }
     ensures kind { IsWriting result }
-    ensures writes { WritesLines ((if two then packets_line Lp counts.now.lp else []) ++ super_frames_line counts.now.super_frames) (S.meaning station.old) (S.meaning station.new) result }
+    ensures writes { WritesLines ((if two then packets_line Lp counts.now.lp else [])
+        ++ super_frames_line counts.now.super_frames) (S.meaning station.old) (S.meaning station.new) result }
 {
     write_lp_line(two, &counts.lp, station)?;
     write_line(&super_frames_line_of(counts.super_frames), station)
@@ -99,7 +101,8 @@ fn write_lines<'a, S: Station<'a>>(
     requires report_open { (S.meaning station.old).report.closed ≡ false }
     ensures cause { HasCause (S.meaning station.old) (S.meaning station.new) result }
     ensures kind { IsWriting result }
-    ensures writes { WritesLines (transmission_lines two counts.now) (S.meaning station.old) (S.meaning station.new) result }
+    ensures writes { WritesLines (transmission_lines two counts.now) (S.meaning station.old) (S.meaning station.new)
+        result }
 {
     write_line(&packets_line_of(Stream::Hp, &counts.hp), station)?;
     write_lp_and_frames(two, counts, station)

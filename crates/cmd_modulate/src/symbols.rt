@@ -1,5 +1,6 @@
 // The work: symbol after symbol.
-ghost use Rattle.std.specs.Prelude.{◌≡◌, ◌≤◌, ◌<◌, ◌+◌, ◌^◌, ℕ, List, [], Some, None, true, false, IsTrue, OnOk, length};
+ghost use Rattle.std.specs.Prelude.{◌≡◌, ◌≤◌, ◌<◌, ◌+◌, ◌^◌, ℕ, List, [], Some, None, true, false, IsTrue, OnOk};
+ghost use Rattle.std.specs.Prelude.{length};
 ghost use Rattle.mode_set.specs.declared.modes.Stream.TheVariants.{Lp};
 ghost use Rattle.mode_set.specs.declared.modes.Stream.{Stream as AnyStream};
 ghost use Rattle.frame_build.specs.CellFile.{header as header_of};
@@ -7,14 +8,15 @@ ghost use Rattle.symbol_parameters.specs.Spans.{exists_in};
 ghost use Rattle.transmission.specs.Transmission.{Inputs, tx_symbol};
 ghost use Rattle.cmd_base.specs.Causes.{HasCause};
 ghost use Rattle.cmd_modulate.specs.Seen.{wanted};
-ghost use Rattle.cmd_modulate.specs.Work.{AreOpen, AreWithin, GoesOn, IsAtWork, IsDue, IsWritten, KeepsOthers, KeepsOutputs, Modulates, Sends, WritesCells, WritesBytes};
+ghost use Rattle.cmd_modulate.specs.Work.{AreOpen, AreWithin, GoesOn, IsAtWork, IsDue, IsWritten, KeepsOthers};
+ghost use Rattle.cmd_modulate.specs.Work.{KeepsOutputs, Modulates, Sends, WritesCells, WritesBytes};
 
 use crate::counts::TransmissionCounts;
 use crate::inputs::PacketInputs;
 use crate::transmitter::Transmitter;
+use cmd_base::{Limits, Refusal};
 use frame_build::header;
 use mode_set::{Mode, Settings};
-use cmd_base::{Limits, Refusal};
 use station_core::{OutPort, Station};
 use transmission::laws::{packets, super_frames, symbols, work};
 
@@ -24,7 +26,8 @@ fn write_header<'a, S: Station<'a>>(mode: Mode, station: &mut S) -> Result<(), R
     requires open { (S.meaning station.old).cells_out.closed ≡ false }
     ensures cause { HasCause (S.meaning station.old) (S.meaning station.new) result }
     ensures others { WritesCells (S.meaning station.old) (S.meaning station.new) }
-    ensures written { IsTrue (S.meaning station.old).tells → WritesBytes (header_of mode) (S.meaning station.old) (S.meaning station.new) result }
+    ensures written { IsTrue (S.meaning station.old).tells → WritesBytes (header_of mode) (S.meaning station.old)
+        (S.meaning station.new) result }
 {
     match station.write(OutPort::Cells, &header(mode)) {
         Ok(()) => Ok(()),
@@ -77,7 +80,8 @@ fn send_symbol<'a, T: Transmitter, S: Station<'a>>(
     ensures others { WritesCells (S.meaning station.old) (S.meaning station.new) }
     ensures stands { (inputs : Inputs) → T.stands tx.old inputs → T.stands tx.new inputs }
     ensures written { IsTrue (S.meaning station.old).tells → (inputs : Inputs) → T.stands tx.old inputs
-        → WritesBytes (tx_symbol (T.seen tx.old).settings inputs (T.seen tx.old).made) (S.meaning station.old) (S.meaning station.new) result }
+        → WritesBytes (tx_symbol (T.seen tx.old).settings inputs (T.seen tx.old).made) (S.meaning station.old)
+        (S.meaning station.new) result }
 {
     tx.symbol(bytes);
     match station.write(OutPort::Cells, bytes) {

@@ -29,7 +29,8 @@ pub(crate) trait Transmitter {
         requires { wanted (seen self.old) ≢ None }
         ensures seen { IfSome (wanted (seen self.old)) (λ σ. seen self.new ≡ with_one σ (seen self.old)) }
         ensures stands { (inputs : Inputs) → stands self.old inputs
-            → IfSome (wanted (seen self.old)) (λ σ. packet.now ≡ packet_at (inputs σ) (by_stream (seen self.old).hp (seen self.old).lp σ)) → stands self.new inputs };
+            → IfSome (wanted (seen self.old)) (λ σ. packet.now ≡ packet_at (inputs σ)
+            (by_stream (seen self.old).hp (seen self.old).lp σ)) → stands self.new inputs };
 
     /// Makes the next symbol, and writes its bytes over the slice, which has exactly their number.
     fn symbol(&mut self, to: &mut [u8])

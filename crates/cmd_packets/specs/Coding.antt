@@ -1,11 +1,13 @@
 -- The work of a command that codes the packets of HP in order: the input left and the bytes written, for each result.
 -- `coded n input` is the output for the first n packets of an input.
-use Rattle.std.specs.Prelude.{◌⊎◌, length, ◌/◌, ◌≡◌, ◌<◌, ◌≤◌, ◌+◌, ◌-◌, ◌*◌, ◌++◌, ℕ, List, [], take, drop, Result, Ok, Err, Option, None, Some, true, false, ⊤}
+use Rattle.std.specs.Prelude.{◌⊎◌, length, ◌/◌, ◌≡◌, ◌<◌, ◌≤◌, ◌+◌, ◌-◌, ◌*◌, ◌++◌, ℕ, List, [], take, drop, Result, Ok}
+use Rattle.std.specs.Prelude.{Err, Option, None, Some, true, false, ⊤}
 use Rattle.station_core.specs.Meaning.{Meaning}
 use Rattle.mode_set.specs.declared.modes.Stream.TheVariants.{Hp}
 use Rattle.cmd_base.specs.declared.counts.Counts.{Counts}
 use Rattle.cmd_base.specs.declared.refusal.Refusal.{Refusal}
-use Rattle.cmd_base.specs.declared.refusal.Refusal.TheVariants.{Usage, Settings, ReadFault, WriteFault, NotSync, Memory, Limit, Cells}
+use Rattle.cmd_base.specs.declared.refusal.Refusal.TheVariants.{Usage, Settings, ReadFault, WriteFault, NotSync, Memory}
+use Rattle.cmd_base.specs.declared.refusal.Refusal.TheVariants.{Limit, Cells}
 use Rattle.cmd_base.specs.Packets.{first_packets, whole_packets, is_sync, AcceptsFirst, counts_of}
 
 -- only the bytes left of HP, the bytes written and pending at Bytes, and the counts have changed
@@ -25,12 +27,14 @@ Step number piece input before left after (Ok None) =
 Step number piece input before left after (Ok (Some tail)) =
     (tail < 188) × (tail ≡ length input) × (left ≡ []) × (after ≡ before)
 Step number piece input before left after (Err (NotSync stream n)) =
-    (stream ≡ Hp) × (n ≡ number) × (188 ≤ length input) × (is_sync input 0 ≡ false) × (left ≡ drop 188 input) × (after ≡ before)
+    (stream ≡ Hp) × (n ≡ number) × (188 ≤ length input) × (is_sync input 0 ≡ false) × (left ≡ drop 188 input)
+    × (after ≡ before)
 Step number piece input before left after (Err (Limit n)) = ⊥
 Step number piece input before left after (Err ReadFault) =
     (k : ℕ) × (k < 188) × (k ≤ length input) × (left ≡ drop k input) × (after ≡ before)
 Step number piece input before left after (Err WriteFault) =
-    (k : ℕ) × (188 ≤ length input) × (is_sync input 0 ≡ true) × (left ≡ drop 188 input) × (after ≡ before ++ take k piece)
+    (k : ℕ) × (188 ≤ length input) × (is_sync input 0 ≡ true) × (left ≡ drop 188 input)
+    × (after ≡ before ++ take k piece)
 Step number piece input before left after (Err Usage) = ⊥
 Step number piece input before left after (Err (Cells reason)) = ⊥
 Step number piece input before left after (Err (Settings reason)) = ⊥
@@ -47,7 +51,8 @@ abbrev pub EndsAtLimit : ℕ → List ℕ → List ℕ → List ℕ → List ℕ
 EndsAtLimit limit input before left after (Ok counts) =
     (counts.packets ≡ limit) × (counts.tail ≡ length input) × (counts.tail < 188) × (left ≡ []) × (after ≡ before)
 EndsAtLimit limit input before left after (Err (NotSync stream n)) = ⊥
-EndsAtLimit limit input before left after (Err (Limit n)) = (n ≡ limit) × (188 ≤ length input) × (left ≡ drop 188 input) × (after ≡ before)
+EndsAtLimit limit input before left after (Err (Limit n)) = (n ≡ limit) × (188 ≤ length input) × (left ≡ drop 188 input)
+    × (after ≡ before)
 EndsAtLimit limit input before left after (Err ReadFault) =
     (k : ℕ) × (k < 188) × (k ≤ length input) × (left ≡ drop k input) × (after ≡ before)
 EndsAtLimit limit input before left after (Err WriteFault) = ⊥
@@ -86,11 +91,14 @@ EndsCoding piece input before left after (Err refusal) = ⊥
 
 -- All packets of an input and the end of their coding; `ended packets` is their whole output. A write fault may appear
 -- only when the output is flushed after another refusal.
-abbrev pub CodesWhole : (List (List ℕ) → List ℕ) → (List (List ℕ) → List ℕ) → ℕ → List ℕ → List ℕ → List ℕ → List ℕ → Result Counts Refusal → Type 0
+abbrev pub CodesWhole : (List (List ℕ) → List ℕ) → (List (List ℕ) → List ℕ) → ℕ → List ℕ → List ℕ → List ℕ → List ℕ
+    → Result Counts Refusal → Type 0
 CodesWhole coded ended limit input before left after (Ok counts) =
     (counts ≡ counts_of input) × AcceptsFirst limit input (whole_packets input)
     × (left ≡ []) × (after ≡ before ++ ended (first_packets (whole_packets input) input))
 CodesWhole coded ended limit input before left after (Err WriteFault) =
     ((r : Refusal) × Codes coded limit input before left after (Err r))
-    ⊎ (AcceptsFirst limit input (whole_packets input) × (left ≡ []) × ((k : ℕ) × (after ≡ before ++ take k (ended (first_packets (whole_packets input) input)))))
-CodesWhole coded ended limit input before left after (Err refusal) = Codes coded limit input before left after (Err refusal)
+    ⊎ (AcceptsFirst limit input (whole_packets input) × (left ≡ [])
+    × ((k : ℕ) × (after ≡ before ++ take k (ended (first_packets (whole_packets input) input)))))
+CodesWhole coded ended limit input before left after (Err refusal)
+    = Codes coded limit input before left after (Err refusal)

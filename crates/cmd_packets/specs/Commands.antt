@@ -6,7 +6,8 @@ use Rattle.outer_chain.specs.Sent.{sent_bytes}
 use Rattle.cmd_base.specs.declared.refusal.Refusal.{Refusal}
 use Rattle.cmd_base.specs.Command.{Command, Files}
 use Rattle.cmd_base.specs.Ports.{by_input, byte_names}
-use Rattle.cmd_base.specs.Packets.{whole_packets, accepted, AreAccepted, first_packets, packets_of, counts_of, packet_refusal, most_packets_taken, closing_line}
+use Rattle.cmd_base.specs.Packets.{whole_packets, accepted, AreAccepted, first_packets, packets_of, counts_of}
+use Rattle.cmd_base.specs.Packets.{packet_refusal, most_packets_taken, closing_line}
 use Rattle.cmd_base.specs.SettingsFile.{most_settings, settings_refusal}
 use Rattle.cmd_base.specs.StatedSettings.{settings_of}
 use Rattle.cmd_packets.specs.DispersedPackets.{dispersed_packets}
@@ -38,8 +39,10 @@ outer_coding = plain_coding sent_bytes
 -- filled with zeros.
 abbrev pub inner_coding : List ℕ → Coding
 inner_coding settings = record {
-  Gives = λ file packets bytes. (s : Settings) × (settings_of (file settings) ≡ Some s) × (bytes ≡ inner_bytes s.rate_hp (sent_bytes packets));
-  GivesInAll = λ file packets bytes. (s : Settings) × (settings_of (file settings) ≡ Some s) × (bytes ≡ filled_inner_bytes s.rate_hp (sent_bytes packets));
+  Gives = λ file packets bytes. (s : Settings) × (settings_of (file settings) ≡ Some s)
+      × (bytes ≡ inner_bytes s.rate_hp (sent_bytes packets));
+  GivesInAll = λ file packets bytes. (s : Settings) × (settings_of (file settings) ≡ Some s)
+      × (bytes ≡ filled_inner_bytes s.rate_hp (sent_bytes packets));
 }
 
 -- some whole packet of the input is rejected
@@ -54,7 +57,8 @@ CodesTo k limit file input bytes =
 
 -- The report is the closing line, or has no line before the refusal if a packet is rejected.
 abbrev pub ClosesWith : ℕ → List ℕ → List ℕ → Type 0
-ClosesWith limit input lines = (AreAccepted limit input × (lines ≡ closing_line (counts_of input))) ⊎ (IsRefused limit input × (lines ≡ []))
+ClosesWith limit input lines = (AreAccepted limit input × (lines ≡ closing_line (counts_of input)))
+    ⊎ (IsRefused limit input × (lines ≡ []))
 
 -- the number of whole packets taken from an input, given the bytes left
 abbrev pub packets_taken : List ℕ → List ℕ → ℕ
@@ -63,7 +67,8 @@ packets_taken input left = (length input - length left) / 188
 -- After a failed read the output is that of the whole packets taken, all of them accepted.
 abbrev pub CodesSoFar : Coding → ℕ → Files → List ℕ → List ℕ → List ℕ → Type 0
 CodesSoFar k limit file input left bytes =
-    k.Gives file (first_packets (packets_taken (file input) left) (file input)) bytes × (packets_taken (file input) left ≤ accepted limit (file input))
+    k.Gives file (first_packets (packets_taken (file input) left) (file input)) bytes
+    × (packets_taken (file input) left ≤ accepted limit (file input))
 
 -- the refusal of the settings, if the command has any
 abbrev pub coding_early : Option (List ℕ) → Files → Option Refusal
@@ -100,4 +105,5 @@ outer_command input output = coding_command None (0 ∷ 4 ∷ 5 ∷ 6 ∷ 7 ∷ 
 
 -- inner SETTINGS TS OUT
 abbrev pub inner_command : List ℕ → List ℕ → List ℕ → Command
-inner_command settings input output = coding_command (Some settings) (0 ∷ 3 ∷ 4 ∷ 5 ∷ 6 ∷ 7 ∷ 8 ∷ []) (inner_coding settings) input output
+inner_command settings input output = coding_command (Some settings) (0 ∷ 3 ∷ 4 ∷ 5 ∷ 6 ∷ 7 ∷ 8 ∷ []) (inner_coding
+    settings) input output

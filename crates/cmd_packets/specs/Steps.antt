@@ -1,10 +1,12 @@
 -- The steps of a run of a command that codes the packets of HP, each as a relation of the station before and after it.
 -- They imply the promise of the run.
-use Rattle.std.specs.Prelude.{◌≡◌, ◌⊎◌, ◌≤◌, ◌++◌, ℕ, true, false, List, [], take, Result, Ok, Err, Some, None, if◌then◌else◌}
+use Rattle.std.specs.Prelude.{◌≡◌, ◌⊎◌, ◌≤◌, ◌++◌, ℕ, true, false, List, [], take, Result, Ok, Err, Some, None}
+use Rattle.std.specs.Prelude.{if◌then◌else◌}
 use Rattle.station_core.specs.Meaning.{Meaning}
 use Rattle.cmd_base.specs.declared.counts.Counts.{Counts}
 use Rattle.cmd_base.specs.declared.refusal.Refusal.{Refusal}
-use Rattle.cmd_base.specs.declared.refusal.Refusal.TheVariants.{Usage, Settings, ReadFault, WriteFault, NotSync, Memory, Limit, Cells}
+use Rattle.cmd_base.specs.declared.refusal.Refusal.TheVariants.{Usage, Settings, ReadFault, WriteFault, NotSync, Memory}
+use Rattle.cmd_base.specs.declared.refusal.Refusal.TheVariants.{Limit, Cells}
 use Rattle.cmd_base.specs.Causes.{FlushesOnly, HasEndCause, Settles}
 use Rattle.cmd_packets.specs.Coding.{CodesWhole}
 use Rattle.cmd_base.specs.Packets.{AcceptsFirst, closing_line, counts_of, whole_packets}
@@ -53,21 +55,28 @@ pub record IsFinished (old new : Meaning) (counts : Counts) : Type 0 where
 -- the closing line or a prefix of it was written to Report, if all packets are accepted
 abbrev pub ClosesFront : ℕ → List ℕ → List ℕ → List ℕ → Type 0
 ClosesFront limit input before after =
-    AcceptsFirst limit input (whole_packets input) × ((k : ℕ) × (after ≡ before ++ take k (closing_line (counts_of input))))
+    AcceptsFirst limit input (whole_packets input) × ((k : ℕ) ×
+    (after ≡ before ++ take k (closing_line (counts_of input))))
 
 -- The state after a run, by its outcome. Until the output is created it says nothing of the output.
-abbrev pub Ran : (List (List ℕ) → List ℕ) → (List (List ℕ) → List ℕ) → ℕ → List ℕ → Meaning → Meaning → Result Counts Refusal → Type 0
+abbrev pub Ran : (List (List ℕ) → List ℕ) → (List (List ℕ) → List ℕ) → ℕ → List ℕ → Meaning → Meaning
+    → Result Counts Refusal → Type 0
 Ran coded ended limit input old new (Ok counts) =
-    IsFinished old new counts × (old.tells ≡ true → CodesWhole coded ended limit (old.file input) [] new.hp.left new.bytes_out.written (Ok counts))
+    IsFinished old new counts × (old.tells ≡ true → CodesWhole coded ended limit (old.file input) [] new.hp.left
+    new.bytes_out.written (Ok counts))
 Ran coded ended limit input old new (Err WriteFault) =
-    (old.tells ≡ true → new.bytes_out.created ≡ true → CodesWhole coded ended limit (old.file input) [] new.hp.left new.bytes_out.written (Err WriteFault))
-    × (old.tells ≡ true → (new.report.written ≡ old.report.written) ⊎ ClosesFront limit (old.file input) old.report.written new.report.written)
+    (old.tells ≡ true → new.bytes_out.created ≡ true → CodesWhole coded ended limit (old.file input) [] new.hp.left
+    new.bytes_out.written (Err WriteFault))
+    × (old.tells ≡ true → (new.report.written ≡ old.report.written)
+    ⊎ ClosesFront limit (old.file input) old.report.written new.report.written)
 Ran coded ended limit input old new (Err ReadFault) =
     (new.report ≡ old.report)
-    × (old.tells ≡ true → new.bytes_out.created ≡ true → CodesWhole coded ended limit (old.file input) [] new.hp.left new.bytes_out.written (Err ReadFault))
+    × (old.tells ≡ true → new.bytes_out.created ≡ true → CodesWhole coded ended limit (old.file input) [] new.hp.left
+    new.bytes_out.written (Err ReadFault))
 Ran coded ended limit input old new (Err refusal) =
     (new.report ≡ old.report) × (new.bytes_out.created ≡ true)
-    × (old.tells ≡ true → CodesWhole coded ended limit (old.file input) [] new.hp.left new.bytes_out.written (Err refusal))
+    × (old.tells ≡ true → CodesWhole coded ended limit (old.file input) [] new.hp.left new.bytes_out.written
+    (Err refusal))
 
 -- after the ports were opened, or one was not: the output is requested only after the input
 abbrev pub OpensAll : List ℕ → List ℕ → Meaning → Meaning → Result (Unit {0}) Refusal → Type 0
@@ -76,7 +85,10 @@ OpensAll input output old new (Ok u) =
       hp = record { asked = Some input; attached = true; left = old.file input };
       bytes_out = record { asked = Some output; created = true; closed = false; written = [] };
     }
-OpensAll input output old new (Err ReadFault) = new ≡ record old { hp = record old.hp { asked = Some input }; read_faults = new.read_faults }
+OpensAll input output old new (Err ReadFault) = new ≡ record old {
+  hp = record old.hp { asked = Some input };
+  read_faults = new.read_faults;
+}
 OpensAll input output old new (Err WriteFault) =
     new ≡ record old {
       hp = record { asked = Some input; attached = true; left = old.file input };
@@ -95,12 +107,18 @@ abbrev pub Finishes : Counts → Meaning → Meaning → Result Counts Refusal �
 Finishes counts old new (Ok c) =
     (c ≡ counts) × (new ≡ record old {
       bytes_out = record old.bytes_out { closed = true };
-      report = record old.report { written = if old.tells then old.report.written ++ closing_line counts else old.report.written };
+      report = record old.report {
+        written = if old.tells then old.report.written
+            ++ closing_line counts else old.report.written;
+      };
     })
 Finishes counts old new (Err refusal) =
     (refusal ≡ WriteFault) × (old.report_faults ≤ new.report_faults) × (k : ℕ) × (new ≡ record old {
       bytes_out = record old.bytes_out { closed = true };
-      report = record old.report { written = if old.tells then old.report.written ++ take k (closing_line counts) else old.report.written };
+      report = record old.report {
+        written = if old.tells then old.report.written
+            ++ take k (closing_line counts) else old.report.written;
+      };
       write_faults = new.write_faults;
       close_faults = new.close_faults;
       report_faults = new.report_faults;
@@ -129,11 +147,13 @@ Tells mid new (Ok counts) = new ≡ mid
 Tells mid new (Err refusal) = WritesText (refusal_text refusal) mid new
 
 -- a run has one outcome, which determines the status, the ports and the report
-pub record RunsCoding (coded ended : List (List ℕ) → List ℕ) (limit : ℕ) (input output : List ℕ) (old new : Meaning) (status : ℕ) : Type 0 where
+pub record RunsCoding (coded ended : List (List ℕ) → List ℕ) (limit : ℕ) (input output : List ℕ) (old new : Meaning)
+    (status : ℕ) : Type 0 where
   pub outcome : Result Counts Refusal
   pub mid : Meaning
   pub status_is : status ≡ outcome_status outcome
   pub asks : AsksPorts input output old mid
-  pub cause : HasEndCause (old.tells ≡ true → AcceptsFirst limit (old.file input) (whole_packets (old.file input))) old mid outcome
+  pub cause : HasEndCause (old.tells ≡ true → AcceptsFirst limit (old.file input) (whole_packets (old.file input))) old
+      mid outcome
   pub ran : Ran coded ended limit input old mid outcome
   pub tells : Tells mid new outcome

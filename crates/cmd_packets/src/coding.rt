@@ -5,9 +5,8 @@ ghost use Rattle.cmd_packets.specs.Coding.{KeepsOthers, OnTaken, Step, EndsAtLim
 ghost use Rattle.cmd_base.specs.Packets.{first_packets};
 
 use crate::coder::Coder;
+use cmd_base::{Counts, Limits, Refusal, fill};
 use mode_set::Stream;
-use cmd_base::{Counts, Limits, Refusal};
-use cmd_base::fill;
 use station_core::{InPort, OutPort, Station};
 use ts_packet::{PACKET_LEN, Packet};
 
@@ -25,10 +24,13 @@ fn code_next<'a, C: Coder, S: Station<'a>>(
     ensures same { (packets : List (List ℕ)) → C.coded coder.new packets ≡ C.coded coder.old packets }
     ensures same_end { (packets : List (List ℕ)) → C.ended coder.new packets ≡ C.ended coder.old packets }
     ensures kept { IfOk result (λ tail. IfSome tail (λ n. coder.new ≡ coder.old)) }
-    ensures takes { OnTaken result ((packets : List (List ℕ)) → IsTrue (S.meaning station.old).tells → C.took coder.old packets
+    ensures takes { OnTaken result ((packets : List (List ℕ)) → IsTrue (S.meaning station.old).tells → C.took coder.old
+        packets
         → C.took coder.new (packets ++ take 188 (S.meaning station.old).hp.left ∷ [])) }
-    ensures gives { OnTaken result ((packets : List (List ℕ)) → IsTrue (S.meaning station.old).tells → C.took coder.old packets
-        → C.coded coder.old (packets ++ take 188 (S.meaning station.old).hp.left ∷ []) ≡ C.coded coder.old packets ++ C.piece coder.new) }
+    ensures gives { OnTaken result ((packets : List (List ℕ)) → IsTrue (S.meaning station.old).tells → C.took coder.old
+        packets
+        → C.coded coder.old (packets ++ take 188 (S.meaning station.old).hp.left ∷ []) ≡ C.coded coder.old packets
+        ++ C.piece coder.new) }
     ensures contents { IsTrue (S.meaning station.old).tells → Step number (C.piece coder.new)
         (S.meaning station.old).hp.left (S.meaning station.old).bytes_out.written
         (S.meaning station.new).hp.left (S.meaning station.new).bytes_out.written result }
@@ -98,7 +100,8 @@ pub fn code_packets<'a, C: Coder, S: Station<'a>>(
     ensures cause { HasCause (S.meaning station.old) (S.meaning station.new) result }
     ensures same { (packets : List (List ℕ)) → C.coded coder.new packets ≡ C.coded coder.old packets }
     ensures same_end { (packets : List (List ℕ)) → C.ended coder.new packets ≡ C.ended coder.old packets }
-    ensures took { IfOk result (λ counts. IsTrue (S.meaning station.old).tells → C.took coder.new (first_packets counts.packets (S.meaning station.old).hp.left)) }
+    ensures took { IfOk result (λ counts. IsTrue (S.meaning station.old).tells
+        → C.took coder.new (first_packets counts.packets (S.meaning station.old).hp.left)) }
     ensures contents { IsTrue (S.meaning station.old).tells → Codes (C.coded coder.old) limits.now.packets
         (S.meaning station.old).hp.left (S.meaning station.old).bytes_out.written
         (S.meaning station.new).hp.left (S.meaning station.new).bytes_out.written result }

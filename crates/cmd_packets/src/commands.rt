@@ -7,11 +7,10 @@ use crate::disperser::Disperser;
 use crate::inner_coder::InnerCoder;
 use crate::outer_coder::OuterCoder;
 use crate::packets_command::run_coding;
+use cmd_base::{Limits, Refusal, read_settings, refuse};
 use outer_chain::OuterTx;
 use outer_chain::laws::sending;
 use puncture::{sent_bits_are_runs, steps_are_numbered, steps_send_in_order};
-use cmd_base::{Limits, Refusal};
-use cmd_base::{read_settings, refuse};
 use station_core::Station;
 use std::alloc::Global;
 
@@ -23,7 +22,8 @@ pub fn disperse<'a, S: Station<'a>>(
     station: &mut S,
 ) -> u8
     requires fresh { IsFresh (S.meaning station.old) }
-    ensures { Run (disperse_command input.now output.now) limits.now.packets (S.meaning station.old) (S.meaning station.new) result }
+    ensures { Run (disperse_command input.now output.now) limits.now.packets (S.meaning station.old)
+        (S.meaning station.new) result }
 {
     run_coding(input, output, limits, &mut Disperser::start(), station)
 }
@@ -37,7 +37,8 @@ pub fn outer<'a, S: Station<'a>>(
     station: &mut S,
 ) -> u8
     requires fresh { IsFresh (S.meaning station.old) }
-    ensures { Run (outer_command input.now output.now) limits.now.packets (S.meaning station.old) (S.meaning station.new) result }
+    ensures { Run (outer_command input.now output.now) limits.now.packets (S.meaning station.old)
+        (S.meaning station.new) result }
 {
     sending();
     match OuterTx::new(alloc) {
@@ -57,7 +58,8 @@ pub fn inner<'a, S: Station<'a>>(
     station: &mut S,
 ) -> u8
     requires fresh { IsFresh (S.meaning station.old) }
-    ensures { Run (inner_command settings.now input.now output.now) limits.now.packets (S.meaning station.old) (S.meaning station.new) result }
+    ensures { Run (inner_command settings.now input.now output.now) limits.now.packets (S.meaning station.old)
+        (S.meaning station.new) result }
 {
     sending();
     steps_send_in_order();

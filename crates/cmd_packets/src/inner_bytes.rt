@@ -77,9 +77,11 @@ impl InnerBytes {
     pub fn push(&mut self, byte: u8, piece: &mut Piece)
         requires room { array_vec_len piece.old + 2 ≤ 408 }
         ensures few { array_vec_len piece.new ≤ array_vec_len piece.old + 2 }
-        ensures after { (r : AnyRate) (bytes : List ℕ) → IsAfter self.old r bytes → IsAfter self.new r (bytes ++ byte ∷ []) }
+        ensures after { (r : AnyRate) (bytes : List ℕ) → IsAfter self.old r bytes
+            → IsAfter self.new r (bytes ++ byte ∷ []) }
         ensures gives { (r : AnyRate) (bytes before : List ℕ) → IsAfter self.old r bytes
-            → inner_bytes r bytes ≡ before ++ piece.old.items → inner_bytes r (bytes ++ byte ∷ []) ≡ before ++ piece.new.items }
+            → inner_bytes r bytes ≡ before ++ piece.old.items → inner_bytes r (bytes ++ byte ∷ []) ≡ before
+            ++ piece.new.items }
     {
         steps_send_in_order();
         steps_are_numbered();

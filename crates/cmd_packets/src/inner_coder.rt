@@ -14,8 +14,10 @@ use ts_packet::Packet;
 
 // Codes the bytes of a word, and replaces the content of the piece by the output.
 fn code_word(inner: &mut InnerBytes, word: &[u8; 204], piece: &mut Piece)
-    ensures after { (r : AnyRate) (bytes : List ℕ) → IsAfter inner.old r bytes → IsAfter inner.new r (bytes ++ word.now) }
-    ensures gives { (r : AnyRate) (bytes : List ℕ) → IsAfter inner.old r bytes → inner_bytes r (bytes ++ word.now) ≡ inner_bytes r bytes ++ piece.new.items }
+    ensures after { (r : AnyRate) (bytes : List ℕ) → IsAfter inner.old r bytes
+        → IsAfter inner.new r (bytes ++ word.now) }
+    ensures gives { (r : AnyRate) (bytes : List ℕ) → IsAfter inner.old r bytes → inner_bytes r (bytes ++ word.now)
+        ≡ inner_bytes r bytes ++ piece.new.items }
 {
     piece.clear();
     for byte in word.iter() {

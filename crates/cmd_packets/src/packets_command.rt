@@ -7,8 +7,7 @@ ghost use Rattle.cmd_packets.specs.Steps.{IsReady, AsksPorts, Ran, RunsCoding};
 use crate::coder::Coder;
 use crate::coding::{code_packets, write_end};
 use crate::steps::{close_refused, finish, open};
-use cmd_base::{Counts, Limits, Refusal};
-use cmd_base::refuse;
+use cmd_base::{Counts, Limits, Refusal, refuse};
 use station_core::Station;
 
 // From opening the ports to closing them.
@@ -23,8 +22,12 @@ fn code_all<'a, C: Coder, S: Station<'a>>(
     requires new { C.took coder.old [] }
     requires empty { C.coded coder.old [] ≡ [] }
     ensures asks { AsksPorts input.now output.now (S.meaning station.old) (S.meaning station.new) }
-    ensures cause { HasEndCause ((S.meaning station.old).tells ≡ true → AcceptsFirst limits.now.packets ((S.meaning station.old).file input.now) (whole_packets ((S.meaning station.old).file input.now))) (S.meaning station.old) (S.meaning station.new) result }
-    ensures ran { Ran (C.coded coder.old) (C.ended coder.old) limits.now.packets input.now (S.meaning station.old) (S.meaning station.new) result }
+    ensures cause { HasEndCause ((S.meaning station.old).tells ≡ true
+        → AcceptsFirst limits.now.packets ((S.meaning station.old).file input.now)
+        (whole_packets ((S.meaning station.old).file input.now))) (S.meaning station.old) (S.meaning station.new)
+        result }
+    ensures ran { Ran (C.coded coder.old) (C.ended coder.old) limits.now.packets input.now (S.meaning station.old)
+        (S.meaning station.new) result }
 {
     open(input, output, station)?;
     match code_packets(limits, coder, station) {
@@ -47,7 +50,8 @@ pub fn run_coding<'a, C: Coder, S: Station<'a>>(
     requires ready { IsReady (S.meaning station.old) }
     requires new { C.took coder.old [] }
     requires empty { C.coded coder.old [] ≡ [] }
-    ensures runs { RunsCoding (C.coded coder.old) (C.ended coder.old) limits.now.packets input.now output.now (S.meaning station.old) (S.meaning station.new) result }
+    ensures runs { RunsCoding (C.coded coder.old) (C.ended coder.old) limits.now.packets input.now output.now
+        (S.meaning station.old) (S.meaning station.new) result }
 {
     match code_all(input, output, limits, coder, station) {
         Ok(_) => 0,

@@ -5,8 +5,7 @@ ghost use Rattle.station_core.specs.Causes.{Rose};
 ghost use Rattle.cmd_base.specs.Packets.{closing_line};
 ghost use Rattle.cmd_packets.specs.Steps.{OpensAll, Finishes, ClosesOutput, ClosesRefused};
 
-use cmd_base::{Counts, Refusal, closing_line_of};
-use cmd_base::settle;
+use cmd_base::{Counts, Refusal, closing_line_of, settle};
 use station_core::{InPort, OutPort, Station};
 
 /// Opens HP for reading, and then creates the output.
@@ -37,7 +36,8 @@ pub fn finish<'a, S: Station<'a>>(counts: Counts, station: &mut S) -> Result<Cou
     requires bytes_open { (S.meaning station.old).bytes_out.closed ≡ false }
     ensures cause { HasEndCause (Unit {0}) (S.meaning station.old) (S.meaning station.new) result }
     ensures finished { Finishes counts (S.meaning station.old) (S.meaning station.new) result }
-    ensures line { (S.meaning station.old).tells ≡ true → OnErr result (Rose (S.meaning station.old).report_faults (S.meaning station.new).report_faults
+    ensures line { (S.meaning station.old).tells ≡ true → OnErr result (Rose (S.meaning station.old).report_faults
+        (S.meaning station.new).report_faults
         ⊎ ((S.meaning station.new).report.written ≡ (S.meaning station.old).report.written ++ closing_line counts)) }
 {
     let line = closing_line_of(&counts);

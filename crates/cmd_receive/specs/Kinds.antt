@@ -30,7 +30,8 @@ written_at two packets lines outs.Report = lines
 
 -- the output of some r that satisfies `Is`: its packets and its lines
 abbrev pub Gives : {R : Type 0} → (R → Type 0) → (R → Stream → List ℕ) → (R → List ℕ) → Bool → Written → Type 0
-Gives {R} Is packets lines two given = (r : R) × Is r × ((port : OutPort) → given port ≡ written_at two (packets r) (lines r) port)
+Gives {R} Is packets lines two given = (r : R) × Is r × ((port : OutPort) → given port ≡ written_at two (packets r)
+    (lines r) port)
 
 -- a kind of reception
 pub record Kind : Type 1 where
@@ -68,13 +69,16 @@ work_of k s two = record {
 }
 
 -- the receiver's reception after one more piece, and its output then
-pub record TakesAs (k : Kind) (standing : List ℕ → k.Received → Type 0) (s : Settings) (bytes piece : List ℕ) (before : k.Received) (out : Output) : Type 0 where
+pub record TakesAs (k : Kind) (standing : List ℕ → k.Received → Type 0) (s : Settings) (bytes piece : List ℕ)
+    (before : k.Received) (out : Output) : Type 0 where
   pub after : k.Received
   pub stands : standing (bytes ++ piece) after
   pub live : k.Live s (bytes ++ piece) after
   pub packets : (σ : Stream) → k.packets after σ ≡ k.packets before σ ++ packets_of out σ
-  pub events_are : events s (symbols s (bytes ++ piece)) (k.reports after) ≡ events s (symbols s bytes) (k.reports before) ++ out.events
+  pub events_are : events s (symbols s (bytes ++ piece)) (k.reports after)
+      ≡ events s (symbols s bytes) (k.reports before) ++ out.events
 
 -- the receiver matches the bytes, and this is its output
 abbrev pub StandsAs : (k : Kind) → (List ℕ → k.Received → Type 0) → Settings → Bool → List ℕ → Written → Type 0
-StandsAs k standing s two bytes given = (r : k.Received) × standing bytes r × k.Live s bytes r × ((port : OutPort) → given port ≡ live_of k s two bytes r port)
+StandsAs k standing s two bytes given = (r : k.Received) × standing bytes r × k.Live s bytes r
+    × ((port : OutPort) → given port ≡ live_of k s two bytes r port)

@@ -13,7 +13,8 @@ AtMostOne Is = (one other : List ℕ) → Is one → Is other → other ≡ one
 
 -- Each output and the lines of the report are unique. After a failed read that leaves `left` unread there is at most
 -- one, as `left` may not be the end of the file.
-pub record IsOneOutput (Output : OutPort → List ℕ → Type 0) (Lines : List ℕ → Type 0) (OutputSoFar : List ℕ → OutPort → List ℕ → Type 0) (LinesSoFar : List ℕ → List ℕ → Type 0) : Type 0 where
+pub record IsOneOutput (Output : OutPort → List ℕ → Type 0) (Lines : List ℕ → Type 0)
+    (OutputSoFar : List ℕ → OutPort → List ℕ → Type 0) (LinesSoFar : List ℕ → List ℕ → Type 0) : Type 0 where
   pub outputs : (port : OutPort) → ExactlyOne (Output port)
   pub lines : ExactlyOne Lines
   pub outputs_so_far : (left : List ℕ) (port : OutPort) → AtMostOne (OutputSoFar left port)

@@ -25,15 +25,18 @@ pub record Returns (s : Settings) (bytes : List ℕ) : Type 0 where
 -- With settings t the file of cells has the same output as with settings s: the outputs and the lines of the report,
 -- for all cells or those within the limit, and up to a failed read.
 pub record AreAlike (s t : Settings) (file : List ℕ) : Type 0 where
-  pub outputs : (port : OutPort) (output : List ℕ) → OutputComes s (cells_in file) port output → OutputComes t (cells_in file) port output
+  pub outputs : (port : OutPort) (output : List ℕ) → OutputComes s (cells_in file) port output
+      → OutputComes t (cells_in file) port output
   pub lines : (lines : List ℕ) → LinesCome s (cells_in file) lines → LinesCome t (cells_in file) lines
-  pub outputs_so_far : (left : List ℕ) (port : OutPort) (output : List ℕ) → OutputSoFar s file left port output → OutputSoFar t file left port output
+  pub outputs_so_far : (left : List ℕ) (port : OutPort) (output : List ℕ) → OutputSoFar s file left port output
+      → OutputSoFar t file left port output
   pub lines_so_far : (left lines : List ℕ) → LinesSoFar (Some s) file left lines → LinesSoFar (Some t) file left lines
 
 -- the laws, from the stated settings, if any, and the file of cells
 pub record ReceiveLaws (stated : Option Settings) (file : List ℕ) : Type 0 where
   -- Each output, and the report, is unique.
-  pub one : (s : Settings) → stated ≡ Some s → IsOneOutput (OutputComes s (cells_in file)) (LinesCome s (cells_in file)) (OutputSoFar s file) (LinesSoFar (Some s) file)
+  pub one : (s : Settings) → stated ≡ Some s → IsOneOutput (OutputComes s (cells_in file)) (LinesCome s (cells_in file))
+      (OutputSoFar s file) (LinesSoFar (Some s) file)
   -- The bits shared by all least paths are a prefix of the least path, over everything received and anything that may
   -- follow.
   pub begins_least : SharedBeginsLeast

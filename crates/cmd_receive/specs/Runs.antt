@@ -11,9 +11,13 @@ use Rattle.cmd_cells.specs.Runs.{RunsCells}
 use Rattle.cmd_cells.specs.Work.{Work}
 
 -- the work was done on the cells, and the packets of the streams written
-abbrev pub RunsReceiving : (Settings → Bool → Work) → Settings → List ℕ → List ℕ → Option (List ℕ) → Meaning → Meaning → ℕ → Type 0
-RunsReceiving work s cells hp lp old new status = RunsCells (work s (is_some lp)) s.max_symbols cells (Some (header s.mode)) (stream_names hp lp) old new status
+abbrev pub RunsReceiving : (Settings → Bool → Work) → Settings → List ℕ → List ℕ → Option (List ℕ) → Meaning → Meaning
+    → ℕ → Type 0
+RunsReceiving work s cells hp lp old new status = RunsCells (work s (is_some lp)) s.max_symbols cells (Some
+    (header s.mode)) (stream_names hp lp) old new status
 
 -- or memory was lacking before another port was requested
-abbrev pub RunsOrLacks : (Settings → Bool → Work) → Settings → List ℕ → List ℕ → Option (List ℕ) → Meaning → Meaning → ℕ → Type 0
-RunsOrLacks work s cells hp lp old new status = RunsReceiving work s cells hp lp old new status ⊎ ((status ≡ 7) × WritesText (refusal_text Memory) old new)
+abbrev pub RunsOrLacks : (Settings → Bool → Work) → Settings → List ℕ → List ℕ → Option (List ℕ) → Meaning → Meaning → ℕ
+    → Type 0
+RunsOrLacks work s cells hp lp old new status = RunsReceiving work s cells hp lp old new status
+    ⊎ ((status ≡ 7) × WritesText (refusal_text Memory) old new)

@@ -14,11 +14,20 @@ abbrev pub LiveGives : Settings → Bool → List ℕ → Written → Type 0
 LiveGives s two bytes = Gives (Live s bytes) (λ r. r.packets) (event_lines s bytes) two
 
 abbrev pub FinalGives : Settings → Bool → List ℕ → Written → Type 0
-FinalGives s two bytes = Gives (Final s bytes) (λ r. r.packets) (λ r. event_lines s bytes r ++ closing_lines s bytes r) two
+FinalGives s two bytes = Gives (Final s bytes) (λ r. r.packets) (λ r. event_lines s bytes r ++ closing_lines s bytes r)
+    two
 
 -- the kind of `receive`
 abbrev pub plain : Kind
-plain = record { Received = Reception; Live = Live; Final = Final; packets = λ r. r.packets; reports = λ r. r.reports; closing = closing_lines }
+plain = record {
+  Received = Reception;
+  Live = Live;
+  Final = Final;
+  packets = λ r. r.packets;
+  reports
+      = λ r. r.reports;
+  closing = closing_lines;
+}
 
 abbrev pub reception_work : Settings → Bool → Work
 reception_work = work_of plain

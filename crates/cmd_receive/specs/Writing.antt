@@ -1,5 +1,6 @@
 -- Writes to the outputs of a reception.
-use Rattle.std.specs.Prelude.{◌≡◌, ◌⊎◌, ℕ, Bool, true, false, if◌then◌else◌, List, [], ◌++◌, take, flat_map, Result, Ok, Err}
+use Rattle.std.specs.Prelude.{◌≡◌, ◌⊎◌, ℕ, Bool, true, false, if◌then◌else◌, List, [], ◌++◌, take, flat_map, Result, Ok}
+use Rattle.std.specs.Prelude.{Err}
 use Rattle.station_core.specs.Meaning.{Meaning}
 use Rattle.station_core.specs.declared.ports.OutPort.TheVariants as outs
 use Rattle.rx_report.specs.Text.{event_line}
@@ -23,12 +24,18 @@ Appends bytes before after (Err r) = (r ≡ WriteFault) × (k : ℕ) × (after �
 -- a line was appended to a pending text, which was written first if there was no space for both; or only a prefix of it
 -- was
 abbrev pub Pushes : List ℕ → List ℕ → List ℕ → List ℕ → List ℕ → Result (Unit {0}) RunError → Type 0
-Pushes line text text' before after (Ok u) = ((after ≡ before) × (text' ≡ text ++ line)) ⊎ ((after ≡ before ++ text) × (text' ≡ line))
+Pushes line text text' before after (Ok u) = ((after ≡ before) × (text' ≡ text ++ line))
+    ⊎ ((after ≡ before ++ text) × (text' ≡ line))
 Pushes line text text' before after (Err r) = (r ≡ WriteFault) × (k : ℕ) × (after ≡ before ++ take k text)
 
 -- only what is written to Report and the counts of write faults have changed
 abbrev pub ReportOnly : Meaning → Meaning → Type 0
-ReportOnly old new = new ≡ record old { report = record old.report { written = new.report.written }; write_faults = new.write_faults; report_faults = new.report_faults }
+ReportOnly old new = new ≡ record old {
+  report = record old.report { written = new.report.written };
+  write_faults =
+      new.write_faults;
+  report_faults = new.report_faults;
+}
 
 -- only the bytes written and pending at Hp, Lp and Report, and the counts of write faults have changed
 abbrev pub WritesOnly : Meaning → Meaning → Type 0

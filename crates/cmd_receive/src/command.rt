@@ -18,11 +18,10 @@ ghost use Rattle.cmd_receive.specs.ReceiveCommand.{receive_command};
 use crate::receivers::{ModeReceiver, ReceiverWithOutput};
 use crate::reception_work::ReceptionWork;
 use crate::running::ReceptionFiles;
+use cmd_base::{Limits, Refusal, read_fitting, refuse};
 use code_paths::shared_begins_least;
 use mode_set::{Carriers, Mode, Mode2k, Mode8k, Settings};
 use receiver::{Receiver, RxOut};
-use cmd_base::{Limits, Refusal};
-use cmd_base::{read_fitting, refuse};
 use station_core::Station;
 use std::alloc::Global;
 use std::thread::Threads;
@@ -48,7 +47,8 @@ fn receive_by<
     requires settings { (T.state receiver.receiver).settings ≡ settings.now }
     requires size { length symbol.old ≡ symbol_length settings.now }
     requires ready { IsReady (stream_names files.hp.now (option_copied files.lp)) (S.meaning station.old) }
-    ensures { RunsReceiving reception_work settings.now files.entry.cells.now files.entry.hp.now (option_copied files.entry.lp) (S.meaning station.old) (S.meaning station.new) result }
+    ensures { RunsReceiving reception_work settings.now files.entry.cells.now files.entry.hp.now
+        (option_copied files.entry.lp) (S.meaning station.old) (S.meaning station.new) result }
 {
     let two = files.lp.is_some();
     let mut work = ReceptionWork { receiver, two };
@@ -66,7 +66,8 @@ fn receive_in<'a, M: Carriers, R: Threads + Sync, G: Gate, S: Station<'a>>(
 ) -> u8
     requires mode { settings.now.mode ≡ M.MODE }
     requires ready { IsReady (stream_names files.hp.now (option_copied files.lp)) (S.meaning station.old) }
-    ensures { RunsOrLacks reception_work settings.now files.entry.cells.now files.entry.hp.now (option_copied files.entry.lp) (S.meaning station.old) (S.meaning station.new) result }
+    ensures { RunsOrLacks reception_work settings.now files.entry.cells.now files.entry.hp.now
+        (option_copied files.entry.lp) (S.meaning station.old) (S.meaning station.new) result }
 {
     let Ok(out) = RxOut::new(alloc) else {
         return refuse(&Refusal::Memory, station);
@@ -101,7 +102,8 @@ fn receive_accepted<'a, R: Threads + Sync, G: Gate, S: Station<'a>>(
     station: &mut S,
 ) -> u8
     requires ready { IsReady (stream_names files.hp.now (option_copied files.lp)) (S.meaning station.old) }
-    ensures { RunsOrLacks reception_work settings.now files.entry.cells.now files.entry.hp.now (option_copied files.entry.lp) (S.meaning station.old) (S.meaning station.new) result }
+    ensures { RunsOrLacks reception_work settings.now files.entry.cells.now files.entry.hp.now
+        (option_copied files.entry.lp) (S.meaning station.old) (S.meaning station.new) result }
 {
     match settings.mode {
         Mode::M2k => receive_in::<Mode2k, R, G, S>(rt, gate, alloc, settings, files, station),
@@ -125,7 +127,8 @@ pub fn receive<'a, R: Threads + Sync, G: Gate, S: Station<'a>>(
     station: &mut S,
 ) -> u8
     requires fresh { IsFresh (S.meaning station.old) }
-    ensures { Run (receive_command settings.now files.entry.cells.now files.entry.hp.now (option_copied files.entry.lp)) limits.now.packets (S.meaning station.old) (S.meaning station.new) result }
+    ensures { Run (receive_command settings.now files.entry.cells.now files.entry.hp.now (option_copied files.entry.lp))
+        limits.now.packets (S.meaning station.old) (S.meaning station.new) result }
 {
     reception::workers::workers();
     law_link::laws::noise();

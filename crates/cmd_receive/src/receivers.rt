@@ -64,7 +64,8 @@ impl<'r, R: Threads + Sync, F: Fn(&mut T, &[u8], &mut RxOut) -> usize, T: ModeRe
 
     ghost settings = { λ x. (T.state x.receiver).settings };
 
-    ghost stands = { λ x moment bytes r. StandsFor moment (T.state x.receiver) bytes r × IsFeeder T.state F.Fn x.feeder.now };
+    ghost stands = { λ x moment bytes r. StandsFor moment (T.state x.receiver) bytes r
+        × IsFeeder T.state F.Fn x.feeder.now };
 
     ghost gave = { λ x. x.out };
 

@@ -2,8 +2,8 @@
 
 use crate::cell_receiver::CellReceiver;
 use crate::writing::{write_lines, write_out};
-use station_core::Station;
 use cmd_cells::{RunError, SymbolWork};
+use station_core::Station;
 
 /// A receiver whose packets and lines are written, with a flag for two streams.
 #[derive(Drop)]

@@ -7,10 +7,10 @@ ghost use Rattle.reception.specs.Cells.{symbol_length};
 ghost use Rattle.cmd_cells.specs.Outputs.{stream_names};
 ghost use Rattle.cmd_cells.specs.Runs.{IsReady, RunsCells};
 
+use cmd_cells::{StreamFiles, SymbolWork, run_cells};
 use frame_build::header;
 use mode_set::Settings;
 use station_core::Station;
-use cmd_cells::{StreamFiles, SymbolWork, run_cells};
 
 /// The names of the files of a command that receives cells.
 #[derive(Clone, Copy)]
@@ -36,10 +36,13 @@ impl<'a> ReceptionFiles<'a> {
         requires able { X.able }
         requires new { X.is_new work.old }
         requires work { (X.work (X.setup work.old)).size ≡ symbol_length settings.now }
-        requires outputs { (port : OutPort) → X.outputs (X.setup work.old) port ≡ is_some (stream_names self.hp.now (option_copied self.lp) port) }
+        requires outputs { (port : OutPort) → X.outputs (X.setup work.old) port
+            ≡ is_some (stream_names self.hp.now (option_copied self.lp) port) }
         requires size { length symbol.old ≡ symbol_length settings.now }
         requires ready { IsReady (stream_names self.hp.now (option_copied self.lp)) (S.meaning station.old) }
-        ensures { RunsCells (X.work (X.setup work.old)) settings.now.max_symbols self.entry.cells.now (Some (header_of settings.now.mode)) (stream_names self.entry.hp.now (option_copied self.entry.lp)) (S.meaning station.old) (S.meaning station.new) result }
+        ensures { RunsCells (X.work (X.setup work.old)) settings.now.max_symbols self.entry.cells.now
+            (Some (header_of settings.now.mode)) (stream_names self.entry.hp.now (option_copied self.entry.lp))
+            (S.meaning station.old) (S.meaning station.new) result }
     {
         let files = StreamFiles {
             hp: self.hp,

@@ -4,14 +4,15 @@ ghost use Rattle.std.specs.List.{concat};
 ghost use Rattle.rx_report.specs.Text.{closing_lines};
 ghost use Rattle.cmd_cells.specs.Stops.{HasCause};
 ghost use Rattle.cmd_cells.specs.Outputs.{IsWriting};
-ghost use Rattle.cmd_receive.specs.Writing.{AreOpen, Appends, IsPrinting, Pushes, ReportOnly, WritesLp, WritesOnly, WritesOut, event_text};
+ghost use Rattle.cmd_receive.specs.Writing.{AreOpen, Appends, IsPrinting, Pushes, ReportOnly, WritesLp, WritesOnly};
+ghost use Rattle.cmd_receive.specs.Writing.{WritesOut, event_text};
 ghost use Rattle.cmd_receive.specs.Closing.{few_lines};
 
 use arrayvec::ArrayString;
+use cmd_cells::{RunError, write_some};
 use receiver::RxOut;
 use rx_report::{Counts, Event, Line};
 use station_core::{OutPort, Station};
-use cmd_cells::{RunError, write_some};
 
 // Space for the lines of all events of a symbol.
 type EventText = ArrayString<2048>;
@@ -77,13 +78,18 @@ fn write_events<'a, S: Station<'a>>(events: &[Event], station: &mut S) -> Result
 
 /// Writes the output of a receiver: the packets of HP, those of LP if there are two streams, and the lines of its
 /// events, with at most one write for each port.
-pub fn write_out<'a, S: Station<'a>>(two: bool, out: &RxOut, station: &mut S) -> Result<(), RunError>
+pub fn write_out<'a, S: Station<'a>>(
+    two: bool,
+    out: &RxOut,
+    station: &mut S,
+) -> Result<(), RunError>
     requires open { AreOpen two (S.meaning station.old) }
     ensures kind { IsWriting result }
     ensures cause { HasCause (S.meaning station.old) (S.meaning station.new) result }
     ensures later_report { (S.meaning station.old).report_faults ≤ (S.meaning station.new).report_faults }
     ensures others { WritesOnly (S.meaning station.old) (S.meaning station.new) }
-    ensures written { IsTrue (S.meaning station.old).tells → WritesOut two out.now (S.meaning station.old) (S.meaning station.new) result }
+    ensures written { IsTrue (S.meaning station.old).tells → WritesOut two out.now (S.meaning station.old) (S.meaning
+        station.new) result }
 {
     write_some(OutPort::Hp, out.hp(), station)?;
     write_lp(two, out.lp(), station)?;

@@ -22,12 +22,17 @@ rescue_command settings cells hp lp = record {
   LacksAtWork = λ limit file unread. ⊥;
   early_refusal = λ file. fitting_refusal (file settings) lp;
   header = λ file. header_by (settings_of (file settings));
-  work_refusal = λ limit file. option_and_then (λ s. reception_refusal s (cells_in (file cells))) (settings_of (file settings));
+  work_refusal = λ limit file. option_and_then (λ s. reception_refusal s (cells_in (file cells)))
+      (settings_of (file settings));
   most_taken = λ limit file. by_input (most_settings + 1) 0 0 (most_cells (settings_of (file settings)));
-  Comes = λ limit file port output. (s : Settings) × (settings_of (file settings) ≡ Some s) × OutputComes s (cells_in (file cells)) port output;
-  Prints = λ limit file lines. (s : Settings) × (settings_of (file settings) ≡ Some s) × LinesCome s (cells_in (file cells)) lines;
+  Comes = λ limit file port output. (s : Settings) × (settings_of (file settings) ≡ Some s)
+      × OutputComes s (cells_in (file cells)) port output;
+  Prints = λ limit file lines. (s : Settings) × (settings_of (file settings) ≡ Some s)
+      × LinesCome s (cells_in (file cells)) lines;
   ComesSoFar = λ limit file unread port output.
-      (s : Settings) × (settings_of (file settings) ≡ Some s) × OutputSoFar s (file cells) (unread ins.Cells) port output;
-  PrintsSoFar = λ limit file unread lines. LinesSoFar (settings_of (file settings)) (file cells) (unread ins.Cells) lines;
+      (s : Settings) × (settings_of (file settings) ≡ Some s)
+      × OutputSoFar s (file cells) (unread ins.Cells) port output;
+  PrintsSoFar = λ limit file unread lines. LinesSoFar (settings_of (file settings)) (file cells) (unread ins.Cells)
+      lines;
   Own = λ limit file. RescueLaws (settings_of (file settings)) (file cells);
 }

@@ -9,7 +9,8 @@ use Rattle.cmd_receive.specs.Received.{cells_in, within_limit, IsAll, IsCutOff, 
 
 -- The output at a port is the packets of all cells or, if they have more symbols than the limit, of those within it.
 abbrev pub OutputComes : Settings → List ℕ → OutPort → List ℕ → Type 0
-OutputComes s bytes port output = (r : Rescue) × (IsAll RescuesAtEnd s bytes r ⊎ IsCutOff RescuesSoFar s bytes r) × (output ≡ packets_at port r.packets)
+OutputComes s bytes port output = (r : Rescue) × (IsAll RescuesAtEnd s bytes r ⊎ IsCutOff RescuesSoFar s bytes r)
+    × (output ≡ packets_at port r.packets)
 
 -- The report is the event lines of all cells and then the closing lines, or the event lines of the symbols within the
 -- limit.
@@ -20,9 +21,11 @@ LinesCome s bytes lines = (r : Rescue) × (
 
 -- After a failed read the output at a port is the packets of the bytes taken.
 abbrev pub OutputSoFar : Settings → List ℕ → List ℕ → OutPort → List ℕ → Type 0
-OutputSoFar s file left port output = (r : Rescue) × IsSoFar RescuesSoFar s file left r × (output ≡ packets_at port r.packets)
+OutputSoFar s file left port output = (r : Rescue) × IsSoFar RescuesSoFar s file left r
+    × (output ≡ packets_at port r.packets)
 
 -- The report has the event lines of these bytes, or none if no settings are stated.
 abbrev pub LinesSoFar : Option Settings → List ℕ → List ℕ → List ℕ → Type 0
 LinesSoFar None file left lines = lines ≡ []
-LinesSoFar (Some s) file left lines = (r : Rescue) × (so_far : IsSoFar RescuesSoFar s file left r) × (lines ≡ event_lines s (cells_in so_far.taken) r)
+LinesSoFar (Some s) file left lines = (r : Rescue) × (so_far : IsSoFar RescuesSoFar s file left r)
+    × (lines ≡ event_lines s (cells_in so_far.taken) r)

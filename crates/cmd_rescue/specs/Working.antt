@@ -8,7 +8,15 @@ use Rattle.cmd_receive.specs.Kinds.{Kind, StandsAs, work_of}
 
 -- the kind of `rescue`
 abbrev pub rescuing : Kind
-rescuing = record { Received = Rescue; Live = RescuesSoFar; Final = RescuesAtEnd; packets = λ r. r.packets; reports = λ r. r.reports; closing = closing_lines }
+rescuing = record {
+  Received = Rescue;
+  Live = RescuesSoFar;
+  Final = RescuesAtEnd;
+  packets = λ r. r.packets;
+  reports
+      = λ r. r.reports;
+  closing = closing_lines;
+}
 
 abbrev pub rescue_work : Settings → Bool → Work
 rescue_work = work_of rescuing

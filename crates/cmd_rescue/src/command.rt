@@ -15,11 +15,10 @@ ghost use Rattle.cmd_rescue.specs.RescueCommand.{rescue_command};
 
 use crate::mode_rescue::ModeRescue;
 use crate::work::RescueWork;
-use mode_set::{Carriers, Mode, Mode2k, Mode8k, Settings};
+use cmd_base::{Limits, Refusal, read_fitting, refuse};
 use cmd_receive::ReceptionFiles;
+use mode_set::{Carriers, Mode, Mode2k, Mode8k, Settings};
 use rescue::{Rescue, RxOut};
-use cmd_base::{Limits, Refusal};
-use cmd_base::{read_fitting, refuse};
 use station_core::Station;
 use std::alloc::Global;
 use std::thread::Threads;
@@ -38,7 +37,8 @@ fn rescue_by<'a, R: Threads + Sync, T: ModeRescue + Drop, S: Station<'a>>(
     requires settings { (T.state receiver).settings ≡ settings.now }
     requires size { length symbol.old ≡ symbol_length settings.now }
     requires ready { IsReady (stream_names files.hp.now (option_copied files.lp)) (S.meaning station.old) }
-    ensures { RunsReceiving rescue_work settings.now files.entry.cells.now files.entry.hp.now (option_copied files.entry.lp) (S.meaning station.old) (S.meaning station.new) result }
+    ensures { RunsReceiving rescue_work settings.now files.entry.cells.now files.entry.hp.now
+        (option_copied files.entry.lp) (S.meaning station.old) (S.meaning station.new) result }
 {
     let two = files.lp.is_some();
     let mut work = RescueWork {
@@ -60,7 +60,8 @@ fn rescue_in<'a, M: Carriers, R: Threads + Sync, S: Station<'a>>(
 ) -> u8
     requires mode { settings.now.mode ≡ M.MODE }
     requires ready { IsReady (stream_names files.hp.now (option_copied files.lp)) (S.meaning station.old) }
-    ensures { RunsOrLacks rescue_work settings.now files.entry.cells.now files.entry.hp.now (option_copied files.entry.lp) (S.meaning station.old) (S.meaning station.new) result }
+    ensures { RunsOrLacks rescue_work settings.now files.entry.cells.now files.entry.hp.now
+        (option_copied files.entry.lp) (S.meaning station.old) (S.meaning station.new) result }
 {
     let Ok(out) = RxOut::new(alloc) else {
         return refuse(&Refusal::Memory, station);
@@ -84,7 +85,8 @@ fn rescue_accepted<'a, R: Threads + Sync, S: Station<'a>>(
     station: &mut S,
 ) -> u8
     requires ready { IsReady (stream_names files.hp.now (option_copied files.lp)) (S.meaning station.old) }
-    ensures { RunsOrLacks rescue_work settings.now files.entry.cells.now files.entry.hp.now (option_copied files.entry.lp) (S.meaning station.old) (S.meaning station.new) result }
+    ensures { RunsOrLacks rescue_work settings.now files.entry.cells.now files.entry.hp.now
+        (option_copied files.entry.lp) (S.meaning station.old) (S.meaning station.new) result }
 {
     match settings.mode {
         Mode::M2k => rescue_in::<Mode2k, R, S>(rt, alloc, settings, files, station),
@@ -107,7 +109,8 @@ pub fn rescue<'a, R: Threads + Sync, S: Station<'a>>(
     station: &mut S,
 ) -> u8
     requires fresh { IsFresh (S.meaning station.old) }
-    ensures { Run (rescue_command settings.now files.entry.cells.now files.entry.hp.now (option_copied files.entry.lp)) limits.now.packets (S.meaning station.old) (S.meaning station.new) result }
+    ensures { Run (rescue_command settings.now files.entry.cells.now files.entry.hp.now (option_copied files.entry.lp))
+        limits.now.packets (S.meaning station.old) (S.meaning station.new) result }
 {
     reception::laws::symbols();
     reception::laws::events();

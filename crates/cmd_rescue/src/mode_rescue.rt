@@ -9,8 +9,7 @@ ghost use Rattle.rescue.specs.Seen.{RescueState};
 ghost use Rattle.rescue.specs.Standing.{StandsFor};
 
 use mode_set::Carriers;
-use rescue::{Rescue, RxOut};
-use rescue::Counts;
+use rescue::{Counts, Rescue, RxOut};
 use std::thread::Threads;
 
 /// The rescuing receiver of a mode.

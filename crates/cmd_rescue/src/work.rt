@@ -3,13 +3,12 @@ ghost use Rattle.rescue.specs.ReportText.{closing_lines};
 ghost use Rattle.cmd_rescue.specs.Closing.{few_lines};
 
 use crate::mode_rescue::ModeRescue;
+use cmd_cells::{RunError, SymbolWork};
 use cmd_receive::{ClosingLines, write_lines, write_out};
+use rescue::{Counts, RxOut};
 use rx_report::Line;
-use rescue::RxOut;
-use rescue::Counts;
 use station_core::Station;
 use std::thread::Threads;
-use cmd_cells::{RunError, SymbolWork};
 
 /// The counts at the end of a reception.
 #[derive(Drop)]

@@ -1,7 +1,8 @@
 -- A file of cells, corrected by the scattered pilots of neighbouring symbols (EN 300 744, 4.5.3; the cell file and the
 -- rule are this project's own). `bytes` are those after the header of the file, which begins at the first symbol of a
 -- super-frame.
-use Rattle.std.specs.Prelude.{◌≡◌, ◌⊎◌, ℕ, ◌-◌, ◌*◌, ◌<◌, ◌≤◌, nat_lt, if◌then◌else◌, List, [], ◌++◌, flat_map, take, drop, Option, Some, None}
+use Rattle.std.specs.Prelude.{◌≡◌, ◌⊎◌, ℕ, ◌-◌, ◌*◌, ◌<◌, ◌≤◌, nat_lt, if◌then◌else◌, List, [], ◌++◌, flat_map, take}
+use Rattle.std.specs.Prelude.{drop, Option, Some, None}
 use Rattle.spec_words.specs.Words.{numbers}
 use Rattle.mode_set.specs.declared.settings.Settings.{Settings}
 use Rattle.frame_build.specs.CellFile.{header}
@@ -39,11 +40,13 @@ within_limit s bytes = take (s.max_symbols * symbol_length s) bytes
 -- The new file is that of all cells or, if they have more whole symbols than the limit, of those within it, as if they
 -- continued.
 abbrev pub FileComes : Settings → List ℕ → List ℕ → Type 0
-FileComes s bytes output = ((symbols s bytes ≤ s.max_symbols) × (output ≡ ended_file s bytes)) ⊎ ((s.max_symbols < symbols s bytes) × (output ≡ live_file s (within_limit s bytes)))
+FileComes s bytes output = ((symbols s bytes ≤ s.max_symbols) × (output ≡ ended_file s bytes))
+    ⊎ ((s.max_symbols < symbols s bytes) × (output ≡ live_file s (within_limit s bytes)))
 
 -- The report is the closing line, or is empty past the limit.
 abbrev pub LinesCome : Settings → List ℕ → List ℕ → Type 0
-LinesCome s bytes lines = ((symbols s bytes ≤ s.max_symbols) × (lines ≡ closing_line s bytes)) ⊎ ((s.max_symbols < symbols s bytes) × (lines ≡ []))
+LinesCome s bytes lines = ((symbols s bytes ≤ s.max_symbols) × (lines ≡ closing_line s bytes))
+    ⊎ ((s.max_symbols < symbols s bytes) × (lines ≡ []))
 
 -- After a failed read the new file is that of the cells taken, as if they continued. They are within the limit.
 pub record FileSoFar (s : Settings) (bytes left output : List ℕ) : Type 0 where

@@ -1,5 +1,6 @@
 -- The work of `track` on cells, with settings s.
-use Rattle.std.specs.Prelude.{◌≡◌, ◌⊎◌, ℕ, ◌-◌, ◌≤◌, nat_le, false, if◌then◌else◌, List, [], ◌∷◌, ◌++◌, length, flat_map, take, Result, Ok, Err, Some}
+use Rattle.std.specs.Prelude.{◌≡◌, ◌⊎◌, ℕ, ◌-◌, ◌≤◌, nat_le, false, if◌then◌else◌, List, [], ◌∷◌, ◌++◌, length}
+use Rattle.std.specs.Prelude.{flat_map, take, Result, Ok, Err, Some}
 use Rattle.std.specs.List.{range_with_len}
 use Rattle.mode_set.specs.declared.modes.Mode.{Mode}
 use Rattle.mode_set.specs.declared.settings.Settings.{Settings}
@@ -54,7 +55,8 @@ symbols_from s all n = flat_map (tracked_bytes s all) (range_with_len n (length 
 
 -- The tracker has had the whole symbols of these bytes, and the bytes after them were counted. No byte of the next
 -- symbol was taken, and there is space for a corrected one.
-pub record Stands (m : Mode) (t : TrackerState) (part : List ℕ) (capacity counted rest : ℕ) (bytes : List ℕ) (given : Written) : Type 0 where
+pub record Stands (m : Mode) (t : TrackerState) (part : List ℕ) (capacity counted rest : ℕ) (bytes : List ℕ)
+    (given : Written) : Type 0 where
   pub mode : t.settings.mode ≡ m
   pub tracks : Tracks t (received t.settings bytes)
   pub going : t.ended ≡ false
@@ -81,9 +83,14 @@ Appends bytes before after (Err r) = (r ≡ WriteFault) × (k : ℕ) × (after �
 
 -- only the bytes written and pending at Cells, and the count of write faults have changed
 abbrev pub CellsOnly : Meaning → Meaning → Type 0
-CellsOnly old new = new ≡ record old { cells_out = record old.cells_out { written = new.cells_out.written }; write_faults = new.write_faults; pending = new.pending }
+CellsOnly old new = new ≡ record old {
+  cells_out = record old.cells_out { written = new.cells_out.written };
+  write_faults = new.write_faults;
+  pending = new.pending;
+}
 
 -- the work was done on the cells, or memory was lacking before a port was requested
 abbrev pub RunsOrLacks : Settings → List ℕ → List ℕ → Meaning → Meaning → ℕ → Type 0
 RunsOrLacks s old_name new_name old new status =
-    RunsCells (tracking_work s) s.max_symbols old_name (Some (header s.mode)) (cell_names new_name) old new status ⊎ ((status ≡ 7) × WritesText (refusal_text Memory) old new)
+    RunsCells (tracking_work s) s.max_symbols old_name (Some (header s.mode)) (cell_names new_name) old new status
+    ⊎ ((status ≡ 7) × WritesText (refusal_text Memory) old new)

@@ -8,13 +8,12 @@ ghost use Rattle.cmd_track.specs.TrackCommand.{track_command};
 ghost use Rattle.cmd_track.specs.Working.{RunsOrLacks};
 
 use crate::tracking_work::TrackingWork;
+use cmd_base::{Limits, Refusal, read_settings, refuse};
+use cmd_cells::{CellFile, run_cells};
 use frame_build::{SymbolIn, header};
 use mode_set::{Carriers, Mode, Mode2k, Mode8k, Settings};
-use cmd_base::{Limits, Refusal};
-use cmd_base::{read_settings, refuse};
 use station_core::Station;
 use std::alloc::Global;
-use cmd_cells::{CellFile, run_cells};
 use tracker::Tracker;
 
 // Allocates the memory for a symbol as bytes, as cells and corrected, and for a tracker, and tracks the cells.
@@ -27,7 +26,8 @@ fn track_in<'a, M: Carriers, S: Station<'a>>(
 ) -> u8
     requires mode { settings.now.mode ≡ M.MODE }
     requires ready { IsReady (cell_names new_cells.now) (S.meaning station.old) }
-    ensures { RunsOrLacks settings.now old_cells.now new_cells.now (S.meaning station.old) (S.meaning station.new) result }
+    ensures { RunsOrLacks settings.now old_cells.now new_cells.now (S.meaning station.old) (S.meaning station.new)
+        result }
 {
     let size = 5 * M::K as usize;
     let Ok(mut bytes) = vec![in alloc; 0u8; size] else {
@@ -70,7 +70,8 @@ fn track_accepted<'a, S: Station<'a>>(
     station: &mut S,
 ) -> u8
     requires ready { IsReady (cell_names new_cells.now) (S.meaning station.old) }
-    ensures { RunsOrLacks settings.now old_cells.now new_cells.now (S.meaning station.old) (S.meaning station.new) result }
+    ensures { RunsOrLacks settings.now old_cells.now new_cells.now (S.meaning station.old) (S.meaning station.new)
+        result }
 {
     match settings.mode {
         Mode::M2k => track_in::<Mode2k, S>(alloc, settings, old_cells, new_cells, station),
@@ -99,7 +100,8 @@ pub fn track<'a, S: Station<'a>>(
     station: &mut S,
 ) -> u8
     requires fresh { IsFresh (S.meaning station.old) }
-    ensures { Run (track_command settings.now old_cells.now new_cells.now) limits.now.packets (S.meaning station.old) (S.meaning station.new) result }
+    ensures { Run (track_command settings.now old_cells.now new_cells.now) limits.now.packets (S.meaning station.old)
+        (S.meaning station.new) result }
 {
     reception::laws::symbols();
     tracking::laws::live_symbols_stay();

@@ -6,9 +6,9 @@ ghost use Rattle.cmd_cells.specs.Outputs.{IsWriting};
 ghost use Rattle.cmd_cells.specs.Stops.{HasCause};
 ghost use Rattle.cmd_track.specs.Working.{Appends, CellsOnly, symbols_from};
 
+use cmd_cells::{RunError, write_some};
 use mode_set::Carriers;
 use station_core::{OutPort, Station};
-use cmd_cells::{RunError, write_some};
 use tracker::Tracker;
 
 /// Writes the symbols not given yet, one write for each. The file has ended, and `room` holds a symbol.
@@ -26,7 +26,8 @@ pub(crate) fn write_rest<'a, M: Carriers, S: Station<'a>>(
     ensures later_report { (S.meaning station.old).report_faults ≤ (S.meaning station.new).report_faults }
     ensures others { CellsOnly (S.meaning station.old) (S.meaning station.new) }
     ensures written { IsTrue (S.meaning station.old).tells → (symbols : List Symbol) → Tracks tracker.old symbols
-        → Appends (symbols_from tracker.old.settings symbols tracker.old.given) (S.meaning station.old).cells_out.written (S.meaning station.new).cells_out.written result }
+        → Appends (symbols_from tracker.old.settings symbols tracker.old.given)
+        (S.meaning station.old).cells_out.written (S.meaning station.new).cells_out.written result }
 {
     room.clear();
     while tracker.rest(room) {

@@ -1,16 +1,17 @@
 // The work of `track` on the symbols of a file of cells.
-ghost use Rattle.std.specs.Prelude.{◌≡◌, ◌+◌, ◌-◌, ◌*◌, ◌<◌, ◌≤◌, ◌^◌, ◌++◌, ◌∷◌, [], ℕ, List, true, false, length, vec_capacity};
+ghost use Rattle.std.specs.Prelude.{◌≡◌, ◌+◌, ◌-◌, ◌*◌, ◌<◌, ◌≤◌, ◌^◌, ◌++◌, ◌∷◌, [], ℕ, List, true, false, length};
+ghost use Rattle.std.specs.Prelude.{vec_capacity};
 ghost use Rattle.tracking.specs.Tracking.{Symbol};
 ghost use Rattle.cmd_convert.specs.Conversion.{counts_line};
 ghost use Rattle.tracker.specs.Tracks.{Tracks};
 ghost use Rattle.cmd_track.specs.Working.{next_given, symbol_in};
 
 use crate::rest::write_rest;
+use cmd_cells::{RunError, SymbolWork, write_some};
 use frame_build::{SymbolIn, header};
 use mode_set::Carriers;
 use rx_report::{Line, push_count};
 use station_core::{OutPort, Station};
-use cmd_cells::{RunError, SymbolWork, write_some};
 use tracker::Tracker;
 
 // The closing line.
@@ -40,8 +41,10 @@ fn take_symbol<M: Carriers>(
     ensures going { tracker.new.ended ≡ false }
     ensures empty { symbol.new ≡ [] }
     ensures capacity { vec_capacity room.new ≡ vec_capacity room.old }
-    ensures tracks { (symbols : List Symbol) → Tracks tracker.old symbols → Tracks tracker.new (symbols ++ symbol_in bytes.now M.K ∷ []) }
-    ensures gives { (symbols : List Symbol) → Tracks tracker.old symbols → room.new.items ≡ next_given tracker.old.settings symbols (symbol_in bytes.now M.K) }
+    ensures tracks { (symbols : List Symbol) → Tracks tracker.old symbols
+        → Tracks tracker.new (symbols ++ symbol_in bytes.now M.K ∷ []) }
+    ensures gives { (symbols : List Symbol) → Tracks tracker.old symbols → room.new.items
+        ≡ next_given tracker.old.settings symbols (symbol_in bytes.now M.K) }
 {
     symbol.take(bytes);
     room.clear();
@@ -82,7 +85,8 @@ impl<'a, S: Station<'a>, M: Carriers> SymbolWork<'a, S> for TrackingWork<M> {
 
     ghost is_new = { λ x. IsNew M.MODE x.tracker x.symbol (vec_capacity x.room) x.symbols x.tail };
 
-    ghost stands = { λ x bytes given. Stands M.MODE x.tracker x.symbol (vec_capacity x.room) x.symbols x.tail bytes given };
+    ghost stands = { λ x bytes given. Stands M.MODE x.tracker x.symbol (vec_capacity x.room) x.symbols x.tail bytes
+        given };
 
     fn begin(&mut self, station: &mut S) -> Result<(), RunError> {
         write_some(OutPort::Cells, &header(M::MODE), station)

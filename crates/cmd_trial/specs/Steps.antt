@@ -20,7 +20,12 @@ pub record IsReady (m : Meaning) : Type 0 where
 
 -- only what is written to Report and the counts of write faults have changed
 abbrev pub ReportOnly : Meaning → Meaning → Type 0
-ReportOnly old new = new ≡ record old { report = record old.report { written = new.report.written }; write_faults = new.write_faults; report_faults = new.report_faults }
+ReportOnly old new = new ≡ record old {
+  report = record old.report { written = new.report.written };
+  write_faults =
+      new.write_faults;
+  report_faults = new.report_faults;
+}
 
 -- the trial is not refused, and its closing lines were written, or a prefix of them
 pub record Prints (s : Settings) (number : ℕ) (old new : Meaning) (result : Result (Unit {0}) Refusal) : Type 0 where
@@ -58,4 +63,5 @@ pub record RunsTrial (s : Settings) (number : ℕ) (old new : Meaning) (status :
 
 -- the run, or lack of memory before it
 abbrev pub RunsOrLacks : Settings → ℕ → Meaning → Meaning → ℕ → Type 0
-RunsOrLacks s number old new status = RunsTrial s number old new status ⊎ ((status ≡ 7) × WritesText (refusal_text Memory) old new)
+RunsOrLacks s number old new status = RunsTrial s number old new status
+    ⊎ ((status ≡ 7) × WritesText (refusal_text Memory) old new)

@@ -1,5 +1,6 @@
 -- The command `trial SETTINGS NUMBER`: its lines, from its settings and its number alone.
-use Rattle.std.specs.Prelude.{◌≡◌, ◌≢◌, ◌+◌, ◌*◌, ℕ, nat_lt, if◌then◌else◌, List, [], ◌∷◌, ◌++◌, codes, decimal, Option, Some, None, option_and_then, false}
+use Rattle.std.specs.Prelude.{◌≡◌, ◌≢◌, ◌+◌, ◌*◌, ℕ, nat_lt, if◌then◌else◌, List, [], ◌∷◌, ◌++◌, codes, decimal, Option}
+use Rattle.std.specs.Prelude.{Some, None, option_and_then, false}
 use Rattle.mode_set.specs.declared.modes.Stream.{Stream}
 use Rattle.mode_set.specs.declared.modes.Stream.TheVariants.{Hp, Lp}
 use Rattle.mode_set.specs.declared.settings.Settings.{Settings}
@@ -32,7 +33,8 @@ abbrev pub cells_line : TrialCounts → List ℕ
 cells_line counts = codes "cells " ++ decimal counts.cells ++ codes "\n"
 
 abbrev pub return_line : Stream → StreamReturn → List ℕ
-return_line σ r = stream_text σ ++ codes " packets " ++ decimal r.packets ++ codes " back " ++ decimal r.back ++ codes " sum " ++ decimal r.sum ++ codes "\n"
+return_line σ r = stream_text σ ++ codes " packets " ++ decimal r.packets ++ codes " back " ++ decimal r.back
+    ++ codes " sum " ++ decimal r.sum ++ codes "\n"
 
 -- the line for the packets of LP, if it exists
 abbrev pub lp_return_line : Option StreamReturn → List ℕ
@@ -45,7 +47,8 @@ trial_lines counts = cells_line counts ++ (return_line Hp counts.hp ++ lp_return
 
 -- the lines of the trial of this number, which count the reception of the cells fed
 abbrev pub AreTrialLines : Settings → ℕ → List ℕ → Type 0
-AreTrialLines s number lines = (r : Reception) × TrialGives (at_zero s) number r × (lines ≡ trial_lines (trial_counts (at_zero s) number r))
+AreTrialLines s number lines = (r : Reception) × TrialGives (at_zero s) number r
+    × (lines ≡ trial_lines (trial_counts (at_zero s) number r))
 
 -- the lines of a trial with these settings; none if it is refused
 pub record TrialPrints (s : Settings) (number : ℕ) (lines : List ℕ) : Type 0 where
@@ -55,7 +58,8 @@ pub record TrialPrints (s : Settings) (number : ℕ) (lines : List ℕ) : Type 0
 -- The law of `trial`, from the stated settings, if any.
 pub record TrialLaws (stated : Option Settings) (number : ℕ) : Type 0 where
   -- Settings that differ only in the number of workers print the same.
-  pub alike : (s t : Settings) → stated ≡ Some s → DifferInWorkers s t → (lines : List ℕ) → TrialPrints s number lines → TrialPrints t number lines
+  pub alike : (s t : Settings) → stated ≡ Some s → DifferInWorkers s t → (lines : List ℕ) → TrialPrints s number lines
+      → TrialPrints t number lines
 
 -- trial SETTINGS NUMBER. Only the settings file is read.
 abbrev pub trial_command : List ℕ → ℕ → Command

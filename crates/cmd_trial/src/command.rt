@@ -7,9 +7,8 @@ ghost use Rattle.cmd_trial.specs.Steps.{IsReady, RunsOrLacks};
 ghost use Rattle.cmd_trial.specs.TrialCommand.{trial_command};
 
 use crate::run::run_trial;
+use cmd_base::{Limits, Refusal, read_settings, refuse};
 use mode_set::{Carriers, Mode, Mode2k, Mode8k, Settings, Start};
-use cmd_base::{Limits, Refusal};
-use cmd_base::{read_settings, refuse};
 use station_core::Station;
 use std::alloc::Global;
 use std::thread::Threads;
@@ -78,7 +77,8 @@ pub fn trial<'a, R: Threads + Sync, G: Gate, S: Station<'a>>(
     station: &mut S,
 ) -> u8
     requires fresh { IsFresh (S.meaning station.old) }
-    ensures { Run (trial_command settings.now number) limits.now.packets (S.meaning station.old) (S.meaning station.new) result }
+    ensures { Run (trial_command settings.now number) limits.now.packets (S.meaning station.old) (S.meaning station.new)
+        result }
 {
     trial::workers::workers();
     match read_settings(alloc, settings, station) {

@@ -5,10 +5,9 @@ ghost use Rattle.cmd_trial.specs.TrialCommand.{cells_line, lp_return_line, retur
 ghost use Rattle.cmd_base.specs.Causes.{HasCause};
 ghost use Rattle.cmd_base.specs.Lines.{IsWriting, WritesLines};
 
+use cmd_base::{Refusal, write_line};
 use mode_set::Stream;
 use rx_report::{Line, name_of, push_count};
-use cmd_base::Refusal;
-use cmd_base::write_line;
 use station_core::Station;
 use trial::{StreamReturn, TrialCounts};
 
@@ -57,7 +56,8 @@ fn write_streams<'a, S: Station<'a>>(counts: &TrialCounts, station: &mut S) -> R
     requires report_open { (S.meaning station.old).report.closed ≡ false }
     ensures cause { HasCause (S.meaning station.old) (S.meaning station.new) result }
     ensures kind { IsWriting result }
-    ensures writes { WritesLines (return_line Hp counts.now.hp ++ lp_return_line counts.now.lp) (S.meaning station.old) (S.meaning station.new) result }
+    ensures writes { WritesLines (return_line Hp counts.now.hp ++ lp_return_line counts.now.lp) (S.meaning station.old)
+        (S.meaning station.new) result }
 {
     write_line(&return_line_of(Stream::Hp, &counts.hp), station)?;
     write_lp(&counts.lp, station)

@@ -6,9 +6,8 @@ ghost use Rattle.cmd_trial.specs.TrialCommand.{limit_of};
 ghost use Rattle.cmd_trial.specs.Steps.{IsReady, Ran, ReportOnly, RunsTrial};
 
 use crate::lines::write_lines;
+use cmd_base::{Refusal, refuse};
 use mode_set::Carriers;
-use cmd_base::Refusal;
-use cmd_base::refuse;
 use station_core::Station;
 use std::thread::Threads;
 use trial::Trial;

@@ -1,5 +1,7 @@
--- Reception of cells that begin at any symbol. `bytes` are those after the header of the file; `two` is true if a file of LP is written too.
-use Rattle.std.specs.Prelude.{◌≡◌, ◌⊎◌, ℕ, ◌<◌, ◌≤◌, Bool, true, false, not, List, [], ◌++◌, Option, Some, None, if◌then◌else◌}
+-- Reception of cells that begin at any symbol. `bytes` are those after the header of the file; `two` is true if a file
+-- of LP is written too.
+use Rattle.std.specs.Prelude.{◌≡◌, ◌⊎◌, ℕ, ◌<◌, ◌≤◌, Bool, true, false, not, List, [], ◌++◌, Option, Some, None}
+use Rattle.std.specs.Prelude.{if◌then◌else◌}
 use Rattle.std.specs.Bool.{beq}
 use Rattle.std.specs.Option.{option_map_or, option_or}
 use Rattle.station_core.specs.declared.ports.OutPort.{OutPort}
@@ -28,8 +30,10 @@ abbrev pub at_place : Found → Written
 at_place found outs.Report = place_line found
 at_place found port = []
 
--- The line of a place, and then what the bytes from the next super-frame on give by the settings that the place announces.
-pub record Tuned (Received : Settings → List ℕ → Written → Type 0) (s : Settings) (two : Bool) (bytes : List ℕ) (found : Found) (given : Written) : Type 0 where
+-- The line of a place, and then what the bytes from the next super-frame on give by the settings that the place
+-- announces.
+pub record Tuned (Received : Settings → List ℕ → Written → Type 0) (s : Settings) (two : Bool) (bytes : List ℕ)
+    (found : Found) (given : Written) : Type 0 where
   pub fits_form : fits two found ≡ true
   pub announced : Settings
   pub is_announced : IsAnnounced found.word s announced
@@ -43,13 +47,16 @@ IsNothing given = (port : OutPort) → given port ≡ []
 
 -- What the first bytes give, as if more might follow: nothing if they hold no place.
 abbrev pub GivesLive : Settings → Bool → List ℕ → Written → Type 0
-GivesLive s two bytes given = (HasNoPlace s bytes × IsNothing given) ⊎ ((found : Found) × IsFoundIn s bytes found × Tuned (λ a. LiveGives a two) s two bytes found given)
+GivesLive s two bytes given = (HasNoPlace s bytes × IsNothing given)
+    ⊎ ((found : Found) × IsFoundIn s bytes found × Tuned (λ a. LiveGives a two) s two bytes found given)
 
 -- What all bytes give at their end: they hold a place.
 abbrev pub GivesFinal : Settings → Bool → List ℕ → Written → Type 0
-GivesFinal s two bytes given = (found : Found) × IsFoundIn s bytes found × Tuned (λ a. FinalGives a two) s two bytes found given
+GivesFinal s two bytes given = (found : Found) × IsFoundIn s bytes found
+    × Tuned (λ a. FinalGives a two) s two bytes found given
 
--- What a run produces. The symbols within the limit hold no place, or one that does not fit: nothing. They hold one that fits: what all bytes give from it on or, if they are more than the limit, what those within it give.
+-- What a run produces. The symbols within the limit hold no place, or one that does not fit: nothing. They hold one
+-- that fits: what all bytes give from it on or, if they are more than the limit, what those within it give.
 abbrev pub ComesTo : Settings → Bool → List ℕ → Written → Type 0
 ComesTo s two bytes given =
     (HoldsNone s bytes × IsNothing given)
@@ -60,4 +67,5 @@ ComesTo s two bytes given =
 
 -- Why it is refused, if it is: by the place within the limit, if there is one, and by the limit.
 abbrev pub tune_refusal : Settings → Bool → List ℕ → Option Refusal
-tune_refusal s two bytes = option_map_or (λ found. if fits two found then reception_refusal s bytes else Some (Cells AnnouncedForm)) (place_of s bytes) (option_or (reception_refusal s bytes) (Some (Cells NoPlace)))
+tune_refusal s two bytes = option_map_or (λ found. if fits two found then reception_refusal s bytes else Some
+    (Cells AnnouncedForm)) (place_of s bytes) (option_or (reception_refusal s bytes) (Some (Cells NoPlace)))

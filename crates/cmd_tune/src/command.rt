@@ -47,7 +47,8 @@ fn tune_by<
     requires able { P.able maker }
     requires size { length symbol.old ≡ symbol_length settings.now }
     requires ready { IsReady (stream_names files.hp.now (option_copied files.lp)) (S.meaning station.old) }
-    ensures { RunsReceiving tuning_work settings.now files.entry.cells.now files.entry.hp.now (option_copied files.entry.lp) (S.meaning station.old) (S.meaning station.new) result }
+    ensures { RunsReceiving tuning_work settings.now files.entry.cells.now files.entry.hp.now
+        (option_copied files.entry.lp) (S.meaning station.old) (S.meaning station.new) result }
 {
     let mut work = TuningWork {
         settings: *settings,
@@ -70,7 +71,8 @@ fn tune_in_mode<'a, M: Carriers, R: Threads + Sync, G: Gate, S: Station<'a>>(
 ) -> u8
     requires mode { settings.now.mode ≡ M.MODE }
     requires ready { IsReady (stream_names files.hp.now (option_copied files.lp)) (S.meaning station.old) }
-    ensures { RunsOrLacks tuning_work settings.now files.entry.cells.now files.entry.hp.now (option_copied files.entry.lp) (S.meaning station.old) (S.meaning station.new) result }
+    ensures { RunsOrLacks tuning_work settings.now files.entry.cells.now files.entry.hp.now
+        (option_copied files.entry.lp) (S.meaning station.old) (S.meaning station.new) result }
 {
     let Ok(mut symbol) = vec![in alloc; 0u8; 5 * M::K as usize] else {
         return refuse(&Refusal::Memory, station);
@@ -102,7 +104,8 @@ fn tune_accepted<'a, R: Threads + Sync, G: Gate, S: Station<'a>>(
     station: &mut S,
 ) -> u8
     requires ready { IsReady (stream_names files.hp.now (option_copied files.lp)) (S.meaning station.old) }
-    ensures { RunsOrLacks tuning_work settings.now files.entry.cells.now files.entry.hp.now (option_copied files.entry.lp) (S.meaning station.old) (S.meaning station.new) result }
+    ensures { RunsOrLacks tuning_work settings.now files.entry.cells.now files.entry.hp.now
+        (option_copied files.entry.lp) (S.meaning station.old) (S.meaning station.new) result }
 {
     match settings.mode {
         Mode::M2k => tune_in_mode::<Mode2k, R, G, S>(rt, gate, alloc, settings, files, station),
@@ -129,7 +132,8 @@ pub fn tune<'a, R: Threads + Sync, G: Gate, S: Station<'a>>(
     station: &mut S,
 ) -> u8
     requires fresh { IsFresh (S.meaning station.old) }
-    ensures { Run (tune_command settings.now cells.now hp.now (option_copied lp.entry)) limits.now.packets (S.meaning station.old) (S.meaning station.new) result }
+    ensures { Run (tune_command settings.now cells.now hp.now (option_copied lp.entry)) limits.now.packets
+        (S.meaning station.old) (S.meaning station.new) result }
 {
     reception::laws::symbols();
     reception::laws::events();

@@ -117,19 +117,28 @@ impl<X: CellReceiver> Behind<X> {
     ) -> Result<(), RunError>
         requires threads { X.has_threads }
         requires open { AreOpen (writes_at self.old.work.two) (S.meaning station.old) }
-        requires going { (s : AnySettings) × (found : AnyFound) × (bytes : List ℕ) × (given : Written) × (symbols s bytes < 2 ^ 32) × ((X.settings self.old.work.receiver).mode ≡ s.mode)
-            × IsBehind (ReceiverStands (X.stands self.old.work.receiver so_far) (X.settings self.old.work.receiver) self.old.work.two) (X.settings self.old.work.receiver) s self.old.work.two self.old.skip found bytes given }
+        requires going { (s : AnySettings) × (found : AnyFound) × (bytes : List ℕ) × (given : Written)
+            × (symbols s bytes < 2 ^ 32) × ((X.settings self.old.work.receiver).mode ≡ s.mode)
+            × IsBehind (ReceiverStands (X.stands self.old.work.receiver so_far) (X.settings self.old.work.receiver)
+            self.old.work.two) (X.settings self.old.work.receiver) s self.old.work.two self.old.skip found bytes
+            given }
         ensures settings { X.settings self.new.work.receiver ≡ X.settings self.old.work.receiver }
         ensures two { self.new.work.two ≡ self.old.work.two }
         ensures others { WritesOnly (S.meaning station.old) (S.meaning station.new) }
         ensures cause { HasCause (S.meaning station.old) (S.meaning station.new) result }
         ensures reason { HasReason (reception_work (X.settings self.old.work.receiver) self.old.work.two) result }
         ensures later_report { (S.meaning station.old).report_faults ≤ (S.meaning station.new).report_faults }
-        ensures takes { (s : AnySettings) (found : AnyFound) (bytes : List ℕ) (given : Written) → (X.settings self.old.work.receiver).mode ≡ s.mode → size ≡ symbol_length s
-            → IsBehind (ReceiverStands (X.stands self.old.work.receiver so_far) (X.settings self.old.work.receiver) self.old.work.two) (X.settings self.old.work.receiver) s self.old.work.two self.old.skip found bytes given
+        ensures takes { (s : AnySettings) (found : AnyFound) (bytes : List ℕ) (given : Written)
+            → (X.settings self.old.work.receiver).mode ≡ s.mode → size ≡ symbol_length s
+            → IsBehind (ReceiverStands (X.stands self.old.work.receiver so_far) (X.settings self.old.work.receiver)
+            self.old.work.two) (X.settings self.old.work.receiver) s self.old.work.two self.old.skip found bytes
+            given
             → tail s bytes ≡ 0 → length piece.now ≤ size
-            → Does (IsBehind (ReceiverStands (X.stands self.new.work.receiver so_far) (X.settings self.new.work.receiver) self.new.work.two) (X.settings self.new.work.receiver) s self.new.work.two self.new.skip found (bytes ++ piece.now))
-            (LiveGives (X.settings self.old.work.receiver) self.old.work.two (rest s (bytes ++ piece.now) found)) (λ r. ⊥) given (S.meaning station.old) (S.meaning station.new) result }
+            → Does (IsBehind (ReceiverStands (X.stands self.new.work.receiver so_far)
+            (X.settings self.new.work.receiver) self.new.work.two) (X.settings self.new.work.receiver) s
+            self.new.work.two self.new.skip found (bytes ++ piece.now))
+            (LiveGives (X.settings self.old.work.receiver) self.old.work.two (rest s (bytes ++ piece.now) found))
+            (λ r. ⊥) given (S.meaning station.old) (S.meaning station.new) result }
     {
         reception::laws::symbols();
         if self.skip == 0 {

@@ -47,7 +47,9 @@ impl<T: PlaceSearch, X: CellReceiver + Drop, P: ReceiverMaker<X>> TuningWork<T, 
         ensures cause { HasCause (S.meaning station.old) (S.meaning station.new) result }
         ensures reason { HasReason (tuning_work self.old.settings self.old.two) result }
         ensures later_report { (S.meaning station.old).report_faults ≤ (S.meaning station.new).report_faults }
-        ensures tunes { Tunes found.now self.old.two (HasSome (λ b. BeginsBehind (X.settings b.work.receiver) (X.stands b.work.receiver so_far [] nothing) self.old.settings b.skip b.work.two self.old.two found.now) self.new.behind)
+        ensures tunes { Tunes found.now self.old.two (HasSome
+            (λ b. BeginsBehind (X.settings b.work.receiver) (X.stands b.work.receiver so_far [] nothing)
+            self.old.settings b.skip b.work.two self.old.two found.now) self.new.behind)
             (S.meaning station.old) (S.meaning station.new) result }
     {
         let settings = announced(&found.word, &self.settings);
@@ -89,10 +91,13 @@ impl<'a, S: Station<'a>, T: PlaceSearch, X: CellReceiver + Drop, P: ReceiverMake
 
     ghost able = { X.has_threads };
 
-    ghost is_new = { λ x. (x.behind ≡ None) × T.stands x.search x.settings [] × (x.settings.mode ≡ T.mode) × (P.mode ≡ T.mode) × P.able x.maker };
+    ghost is_new = { λ x. (x.behind ≡ None) × T.stands x.search x.settings [] × (x.settings.mode ≡ T.mode)
+        × (P.mode ≡ T.mode) × P.able x.maker };
 
     ghost stands = { λ x bytes given. (x.settings.mode ≡ T.mode) × (P.mode ≡ T.mode) × P.able x.maker
-        × TuningStands (T.stands x.search) (λ b s two found bytes behind. IsBehindPlace (X.settings b.work.receiver) b.work.two b.skip (ReceiverStands (X.stands b.work.receiver so_far) (X.settings b.work.receiver) b.work.two) s two found bytes behind)
+        × TuningStands (T.stands x.search) (λ b s two found bytes behind. IsBehindPlace (X.settings b.work.receiver)
+        b.work.two b.skip (ReceiverStands (X.stands b.work.receiver so_far) (X.settings b.work.receiver) b.work.two)
+        s two found bytes behind)
         x.settings x.two x.behind bytes given };
 
     fn begin(&mut self, _station: &mut S) -> Result<(), RunError> {

@@ -31,7 +31,8 @@ pub record IsShown (r : List Bool) (c : List CostPair) (p : List Bool) : Type 0 
 
 -- From such costs only sent bits are given, whatever is reported, and all of them at the end.
 pub record KeepsSent (most : ℕ) : Type 0 where
-  pub given : (r p bits : List Bool) (c : List CostPair) → IsShown r c p → Given most (Some r) c bits → IsPrefix bits (drop 6 p)
+  pub given : (r p bits : List Bool) (c : List CostPair) → IsShown r c p → Given most (Some r) c bits
+      → IsPrefix bits (drop 6 p)
   pub ended : (r p bits : List Bool) (c : List CostPair) → IsShown r c p → Ended most (Some r) c bits → bits ≡ drop 6 p
 
 -- the costs of X or of Y: those of a sent bit, or 0 for a punctured bit
@@ -41,4 +42,6 @@ PairHas is_sent k zero_cost one_cost = (zero_cost ≡ cond is_sent (k false) 0) 
 -- If X or Y of a step is sent, and the path's own value of each sent bit costs less than the other value, the pair
 -- favours the path.
 abbrev pub PairsSpeak : Type 0
-PairsSpeak = (c : CostPair) (p : List Bool) (sx sy : Bool) (kx ky : Bool → ℕ) → (sx || sy) ≡ true → PairHas sx kx c.x0 c.x1 → PairHas sy ky c.y0 c.y1 → kx (parity_x p) < kx (not (parity_x p)) → ky (parity_y p) < ky (not (parity_y p)) → SpeaksFor c p
+PairsSpeak = (c : CostPair) (p : List Bool) (sx sy : Bool) (kx ky : Bool → ℕ) → (sx || sy) ≡ true
+    → PairHas sx kx c.x0 c.x1 → PairHas sy ky c.y0 c.y1 → kx (parity_x p) < kx (not (parity_x p))
+    → ky (parity_y p) < ky (not (parity_y p)) → SpeaksFor c p

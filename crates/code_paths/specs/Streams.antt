@@ -49,7 +49,8 @@ pub record IsPart (most : ℕ) (a : Option (List Bool)) (part : Part) : Type 0 w
 -- the final register of the one before.
 abbrev pub IsCut : ℕ → Option (List Bool) → List CostPair → List Part → Option (List Bool) → List CostPair → Type 0
 IsCut most a c [] b d = (b ≡ a) × (d ≡ c) × IsQuiet most a c (length c + 1)
-IsCut most a c (part ∷ parts) b d = (rest : List CostPair) × (c ≡ part.costs ++ rest) × IsPart most a part × IsCut most (Some (end_of part)) rest parts b d
+IsCut most a c (part ∷ parts) b d = (rest : List CostPair) × (c ≡ part.costs ++ rest) × IsPart most a part
+    × IsCut most (Some (end_of part)) rest parts b d
 
 -- the bits of ended parts: those of their least paths, without the register
 abbrev pub bits_of : List Part → List Bool

@@ -1,5 +1,6 @@
 -- Exhaustive search of all paths, in the order of the last differing position.
-use Rattle.std.specs.Prelude.{◌≡◌, ℕ, ◌+◌, ◌-◌, ◌*◌, ◌<◌, ◌≤◌, Bool, true, false, List, [], ◌∷◌, length, drop, ⊤, IsTrue, ◌⊎◌}
+use Rattle.std.specs.Prelude.{◌≡◌, ℕ, ◌+◌, ◌-◌, ◌*◌, ◌<◌, ◌≤◌, Bool, true, false, List, [], ◌∷◌, length, drop, ⊤}
+use Rattle.std.specs.Prelude.{IsTrue, ◌⊎◌}
 use Rattle.std.specs.declared.option.Option.{Option}
 use Rattle.std.specs.declared.option.Option.TheVariants.{None, Some}
 use Rattle.code_paths.specs.declared.costs.CostPair.{CostPair}
@@ -28,10 +29,12 @@ pub record IsFirst (a e : Option (List Bool)) (c : List CostPair) (p : List Bool
   pub first : (q : List Bool) → IsPath a c q → Ends e q → (p ≡ q) ⊎ Before c p q
 
 -- of the paths with a number below k, `best` is the least, if `any` is true
-pub record BestBelow (a e : Option (List Bool)) (c : List CostPair) (k : ℕ) (any : Bool) (cost : ℕ) (best : List Bool) : Type 0 where
+pub record BestBelow (a e : Option (List Bool)) (c : List CostPair) (k : ℕ) (any : Bool) (cost : ℕ) (best : List Bool) :
+    Type 0 where
   pub path : IsTrue any → IsPath a c best
   pub ends : IsTrue any → Ends e best
   pub cost_is : IsTrue any → cost ≡ total c best
   pub below : IsTrue any → weight best < k
-  pub first : IsTrue any → (q : List Bool) → IsPath a c q → Ends e q → weight q < k → (total c best < total c q) ⊎ ((total c best ≡ total c q) × (weight best ≤ weight q))
+  pub first : IsTrue any → (q : List Bool) → IsPath a c q → Ends e q → weight q < k → (total c best < total c q)
+      ⊎ ((total c best ≡ total c q) × (weight best ≤ weight q))
   pub none : any ≡ false → (q : List Bool) → IsPath a c q → Ends e q → weight q < k → ⊥

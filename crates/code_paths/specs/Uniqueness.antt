@@ -20,4 +20,5 @@ SomeAreEnded = (most : ℕ) (a : Option (List Bool)) (c : List CostPair) → IsS
 
 -- the reports exist, perhaps none
 abbrev pub SomeAreReported : Type 0
-SomeAreReported = (most : ℕ) (a : Option (List Bool)) (c : List CostPair) → IsStart a → (rs : List ℕ) × Reports most a c rs
+SomeAreReported = (most : ℕ) (a : Option (List Bool)) (c : List CostPair) → IsStart a → (rs : List ℕ)
+    × Reports most a c rs

@@ -1,5 +1,6 @@
 // Laws of the definitions, for the crates above.
-ghost use Rattle.code_paths.specs.Laws.{PathsExtend, GivenGrows, ReportsGrow, SharedBeginsLeast, GivenOnce, EndedOnce, ReportsOnce, GivenBeginsEnded};
+ghost use Rattle.code_paths.specs.Laws.{PathsExtend, GivenGrows, ReportsGrow, SharedBeginsLeast, GivenOnce, EndedOnce};
+ghost use Rattle.code_paths.specs.Laws.{ReportsOnce, GivenBeginsEnded};
 ghost use Rattle.code_paths.specs.Favoured.{KeepsSent, PairsSpeak};
 ghost use Rattle.std.specs.Prelude.{ℕ};
 

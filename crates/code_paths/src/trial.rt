@@ -97,7 +97,8 @@ fn consider(
     requires best { length best.old ≡ 6 + length costs.now }
     requires few { length costs.now ≤ 10 }
     ensures size { length best.new ≡ length best.old }
-    ensures best { BestBelow start end costs.now (weight path.now) so_far.0 so_far.1 best.old → BestBelow start end costs.now (weight path.now + 1) result.0 result.1 best.new }
+    ensures best { BestBelow start end costs.now (weight path.now) so_far.0 so_far.1 best.old
+        → BestBelow start end costs.now (weight path.now + 1) result.0 result.1 best.new }
 {
     if !fits(path, start, end) {
         return so_far;

@@ -33,14 +33,16 @@ pub fn branch(state: u8, bit: bool) -> (bool, bool)
 
 /// The X bits of all inputs in a word; bit 0 is the newest.
 fn taps_x(inputs: u16) -> u16
-    ensures { (k : ℕ) → k < 8 → is_set result k ≡ xor (is_set inputs k) (xor (is_set inputs (k + 1)) (xor (is_set inputs (k + 2)) (xor (is_set inputs (k + 3)) (is_set inputs (k + 6))))) }
+    ensures { (k : ℕ) → k < 8 → is_set result k ≡ xor (is_set inputs k) (xor (is_set inputs (k + 1))
+        (xor (is_set inputs (k + 2)) (xor (is_set inputs (k + 3)) (is_set inputs (k + 6))))) }
 {
     inputs ^ (inputs >> 1 ^ (inputs >> 2 ^ (inputs >> 3 ^ inputs >> 6)))
 }
 
 /// The Y bits of all inputs in a word; bit 0 is the newest.
 fn taps_y(inputs: u16) -> u16
-    ensures { (k : ℕ) → k < 8 → is_set result k ≡ xor (is_set inputs k) (xor (is_set inputs (k + 2)) (xor (is_set inputs (k + 3)) (xor (is_set inputs (k + 5)) (is_set inputs (k + 6))))) }
+    ensures { (k : ℕ) → k < 8 → is_set result k ≡ xor (is_set inputs k) (xor (is_set inputs (k + 2))
+        (xor (is_set inputs (k + 3)) (xor (is_set inputs (k + 5)) (is_set inputs (k + 6))))) }
 {
     inputs ^ (inputs >> 2 ^ (inputs >> 3 ^ (inputs >> 5 ^ inputs >> 6)))
 }
@@ -96,7 +98,8 @@ impl Encoder {
         ensures x { result.0 ≡ parity_x (self.old ++ bit ∷ []) }
         ensures y { result.1 ≡ parity_y (self.old ++ bit ∷ []) }
         ensures register { self.new ≡ drop 1 (self.old ++ bit ∷ []) }
-        ensures path { (p : List Bool) → IsAfter self.old p → Codes p (bit ∷ []) (result.0 ∷ []) (result.1 ∷ []) self.new }
+        ensures path { (p : List Bool) → IsAfter self.old p → Codes p (bit ∷ []) (result.0 ∷ []) (result.1 ∷ [])
+            self.new }
     {
         let inputs = with_bit(self.register, bit);
         self.register = (inputs & 63) as u8;
@@ -109,7 +112,8 @@ impl Encoder {
         ensures x { spelled 8 result.0 ≡ xs_of 8 (self.old ++ spelled 8 byte) }
         ensures y { spelled 8 result.1 ≡ ys_of 8 (self.old ++ spelled 8 byte) }
         ensures register { self.new ≡ drop 8 (self.old ++ spelled 8 byte) }
-        ensures path { (p : List Bool) → IsAfter self.old p → Codes p (spelled 8 byte) (spelled 8 result.0) (spelled 8 result.1) self.new }
+        ensures path { (p : List Bool) → IsAfter self.old p → Codes p (spelled 8 byte) (spelled 8 result.0) (spelled 8
+            result.1) self.new }
     {
         let inputs = with_byte(self.register, byte);
         self.register = byte & 63;

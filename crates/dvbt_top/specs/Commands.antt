@@ -13,7 +13,8 @@ use Rattle.cmd_measure.specs.MeasureCommand.{measure_command}
 use Rattle.cmd_convert.specs.UpgradeCommand.{upgrade_command}
 use Rattle.cmd_convert.specs.EqualiseCommand.{equalise_command}
 use Rattle.cmd_track.specs.TrackCommand.{track_command}
-use Rattle.dvbt_top.specs.Order.{Order, Disperse, Outer, Inner, Code, Modulate, Receive, Rescue, Tune, Align, Measure, Upgrade, Equalise, Track, Trial, order_of}
+use Rattle.dvbt_top.specs.Order.{Order, Disperse, Outer, Inner, Code, Modulate, Receive, Rescue, Tune, Align, Measure}
+use Rattle.dvbt_top.specs.Order.{Upgrade, Equalise, Track, Trial, order_of}
 
 -- invalid arguments: they are refused, and no file is requested
 abbrev pub no_command : Command

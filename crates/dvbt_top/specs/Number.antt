@@ -9,4 +9,5 @@ is_numeral word = nat_le 1 (length word) && nat_le (length word) 10 && all_ascii
 
 -- the number of a decimal argument, if it fits 32 bits
 unfoldable pub number_of : List ℕ → Option ℕ
-number_of word = if is_numeral word && nat_le (digits_value 10 word) 4294967295 then Some (digits_value 10 word) else None
+number_of word = if is_numeral word && nat_le (digits_value 10 word) 4294967295 then Some (digits_value 10 word) else
+    None

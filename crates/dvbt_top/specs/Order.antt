@@ -40,14 +40,17 @@ pub data Order : Type 0 where
 
 -- the coding of a one-word name
 abbrev pub coding_of : List ℕ → Option Coding
-coding_of name = if bytes_eq name (codes "disperse") then Some Disperse else if bytes_eq name (codes "outer") then Some Outer else None
+coding_of name = if bytes_eq name (codes "disperse") then Some Disperse else if bytes_eq name (codes "outer") then Some
+    Outer else None
 
 -- the form of a list of arguments, if it is valid
 abbrev pub order_of : List (List ℕ) → Option Order
-order_of (name ∷ first ∷ second ∷ []) = if bytes_eq name (codes "trial") then option_map (λ number. Trial first number) (number_of second)
+order_of (name ∷ first ∷ second ∷ []) = if bytes_eq name (codes "trial") then option_map (λ number. Trial first number)
+    (number_of second)
     else if bytes_eq name (codes "measure") then Some (Measure first second)
     else option_map (λ coding. Code coding first second) (coding_of name)
-order_of (name ∷ settings ∷ input ∷ output ∷ []) = if bytes_eq name (codes "inner") then Some (Code (Inner settings) input output)
+order_of (name ∷ settings ∷ input ∷ output ∷ []) = if bytes_eq name (codes "inner") then Some (Code (Inner settings)
+    input output)
     else if bytes_eq name (codes "modulate") then Some (Modulate settings input None output)
     else if bytes_eq name (codes "receive") then Some (Receive settings input output None)
     else if bytes_eq name (codes "rescue") then Some (Rescue settings input output None)
@@ -56,7 +59,8 @@ order_of (name ∷ settings ∷ input ∷ output ∷ []) = if bytes_eq name (cod
     else if bytes_eq name (codes "upgrade") then Some (Upgrade settings input output)
     else if bytes_eq name (codes "equalise") then Some (Equalise settings input output)
     else if bytes_eq name (codes "track") then Some (Track settings input output) else None
-order_of (name ∷ settings ∷ first ∷ second ∷ third ∷ []) = if bytes_eq name (codes "modulate") then Some (Modulate settings first (Some second) third)
+order_of (name ∷ settings ∷ first ∷ second ∷ third ∷ []) = if bytes_eq name (codes "modulate") then Some (Modulate
+    settings first (Some second) third)
     else if bytes_eq name (codes "receive") then Some (Receive settings first second (Some third))
     else if bytes_eq name (codes "rescue") then Some (Rescue settings first second (Some third))
     else if bytes_eq name (codes "tune") then Some (Tune settings first second (Some third)) else None

@@ -29,7 +29,8 @@ next_of n branch = n + (branch + 12 - n % 12) % 12
 
 -- the contents of the line of a branch with a delay of d words
 abbrev pub waiting : ℕ → List ℕ → ℕ → List ℕ
-waiting d bytes branch = values (λ k. delayed (stream_of bytes) (next_of (length bytes) branch + 12 * k) (204 * d)) 0 (17 * d)
+waiting d bytes branch = values (λ k. delayed (stream_of bytes) (next_of (length bytes) branch + 12 * k) (204 * d)) 0
+    (17 * d)
 
 abbrev pub line : List (Buffer ℕ) → ℕ → Buffer ℕ
 line lines branch = slice_index_or lines branch (buffer [] 0)
@@ -38,7 +39,8 @@ line lines branch = slice_index_or lines branch (buffer [] 0)
 pub record StandsFor (delay : ℕ → ℕ) (delays : Delays) (bytes : List ℕ) : Type 0 where
   pub twelve : length delays.lines ≡ 12
   pub turn : delays.next ≡ length bytes % 12
-  pub holds : (branch : ℕ) → branch < 12 → line delays.lines branch ≡ buffer (waiting (delay branch) bytes branch) (17 * delay branch)
+  pub holds : (branch : ℕ) → branch < 12 → line delays.lines branch
+      ≡ buffer (waiting (delay branch) bytes branch) (17 * delay branch)
 
 -- an interleaver after these coded bytes
 abbrev pub Interleaves : Delays → List ℕ → Type 0

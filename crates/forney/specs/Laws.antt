@@ -9,7 +9,8 @@ ElevenWords = (coded : ℕ → ℕ) (p : ℕ) → deinterleaved (interleaved cod
 
 -- the same for a list of bytes
 abbrev pub ElevenWordsOfBytes : Type 0
-ElevenWordsOfBytes = (coded : List ℕ) (p : ℕ) → p < length coded → deinterleaved (stream_of (interleaved_bytes coded)) p ≡ delayed (stream_of coded) p 2244
+ElevenWordsOfBytes = (coded : List ℕ) (p : ℕ) → p < length coded → deinterleaved (stream_of (interleaved_bytes coded)) p
+    ≡ delayed (stream_of coded) p 2244
 
 -- the first n interleaved bytes depend only on the first n bytes
 abbrev pub FirstInterleaved : Type 0
@@ -17,4 +18,5 @@ FirstInterleaved = (coded : ℕ → ℕ) (n : ℕ) → interleaved_bytes (values
 
 -- deinterleaved byte p depends on no byte after byte p
 abbrev pub FirstDeinterleaved : Type 0
-FirstDeinterleaved = (bytes : ℕ → ℕ) (n p : ℕ) → p < n → deinterleaved (stream_of (values bytes 0 n)) p ≡ deinterleaved bytes p
+FirstDeinterleaved = (bytes : ℕ → ℕ) (n p : ℕ) → p < n → deinterleaved (stream_of (values bytes 0 n)) p
+    ≡ deinterleaved bytes p

@@ -50,7 +50,8 @@ impl Interleaver {
 
     /// Takes the next coded byte, and gives the next interleaved one.
     pub fn step(&mut self, byte: u8) -> u8
-        ensures given { (coded : List ℕ) → Interleaves self.old coded → result ≡ interleaved (stream_of (coded ++ byte ∷ [])) (length coded) }
+        ensures given { (coded : List ℕ) → Interleaves self.old coded → result
+            ≡ interleaved (stream_of (coded ++ byte ∷ [])) (length coded) }
         ensures stands { (coded : List ℕ) → Interleaves self.old coded → Interleaves self.new (coded ++ byte ∷ []) }
     {
         self.lines.step(byte)
@@ -83,7 +84,8 @@ impl Deinterleaver {
 
     /// Takes the next interleaved byte, and gives the next deinterleaved one.
     pub fn step(&mut self, byte: u8) -> u8
-        ensures given { (bytes : List ℕ) → Deinterleaves self.old bytes → result ≡ deinterleaved (stream_of (bytes ++ byte ∷ [])) (length bytes) }
+        ensures given { (bytes : List ℕ) → Deinterleaves self.old bytes → result
+            ≡ deinterleaved (stream_of (bytes ++ byte ∷ [])) (length bytes) }
         ensures stands { (bytes : List ℕ) → Deinterleaves self.old bytes → Deinterleaves self.new (bytes ++ byte ∷ []) }
     {
         self.lines.step(byte)

@@ -62,8 +62,10 @@ impl Lines {
 
     /// Hands a byte to the next line, and takes out what comes from it.
     pub fn step(&mut self, byte: u8) -> u8
-        ensures given { (delay : ℕ → ℕ) (bytes : List ℕ) → StandsFor delay (delays self.old.lines.items self.old.next) bytes → result ≡ branched_at delay (stream_of (bytes ++ byte ∷ [])) (length bytes) }
-        ensures stands { (delay : ℕ → ℕ) (bytes : List ℕ) → StandsFor delay (delays self.old.lines.items self.old.next) bytes → StandsFor delay (delays self.new.lines.items self.new.next) (bytes ++ byte ∷ []) }
+        ensures given { (delay : ℕ → ℕ) (bytes : List ℕ) → StandsFor delay (delays self.old.lines.items self.old.next)
+            bytes → result ≡ branched_at delay (stream_of (bytes ++ byte ∷ [])) (length bytes) }
+        ensures stands { (delay : ℕ → ℕ) (bytes : List ℕ) → StandsFor delay (delays self.old.lines.items self.old.next)
+            bytes → StandsFor delay (delays self.new.lines.items self.new.next) (bytes ++ byte ∷ []) }
     {
         let out = self.lines[self.next].push_back(byte).unwrap_or(byte);
         self.next = next_branch(self.next);

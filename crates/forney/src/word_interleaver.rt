@@ -52,7 +52,8 @@ fn put_row(window: &[u8], word: &mut [u8], row: usize)
     requires row { row < 17 }
     ensures size { length word.new ≡ 204 }
     ensures before { (j : ℕ) → j < 12 * row → slice_index word.new j ≡ slice_index word.old j }
-    ensures here { (b : ℕ) → b < 12 → slice_index word.new (12 * row + b) ≡ slice_index window.now (2244 + 12 * row + b - 204 * b) }
+    ensures here { (b : ℕ) → b < 12 → slice_index word.new (12 * row + b)
+        ≡ slice_index window.now (2244 + 12 * row + b - 204 * b) }
 {
     for branch in 0..12usize {
         word[12 * row + branch] = window[WINDOW - WORD + 12 * row + branch - WORD * branch];
@@ -84,7 +85,8 @@ impl WordInterleaver {
     /// Takes the next coded word, of 204 bytes, and puts the next interleaved bytes in its place.
     pub fn take(&mut self, word: &mut [u8])
         requires { length word.old ≡ 204 }
-        ensures given { (coded : List ℕ) → Interleaves self.old coded → word.new ≡ values (interleaved (stream_of (coded ++ word.old))) (length coded) (length word.old) }
+        ensures given { (coded : List ℕ) → Interleaves self.old coded → word.new
+            ≡ values (interleaved (stream_of (coded ++ word.old))) (length coded) (length word.old) }
         ensures stands { (coded : List ℕ) → Interleaves self.old coded → Interleaves self.new (coded ++ word.old) }
     {
         push_word(&mut self.window, word);

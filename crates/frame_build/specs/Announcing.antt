@@ -18,8 +18,10 @@ settings_for now next (Payload q) = now
 
 -- the cell of carrier k in symbol m, by the kind of the carrier
 unfoldable pub announcing_cell : Settings → Settings → ℕ → (ℕ → ℕ → Bool) → ℕ → Cell
-announcing_cell now next m labels k = let kd = kind now.mode (m % 68) k in cell_of_kind (settings_for now next kd) m labels k kd
+announcing_cell now next m labels k = let kd = kind now.mode (m % 68) k in cell_of_kind (settings_for now next kd) m
+    labels k kd
 
 -- the bytes of symbol m, carriers rising
 unfoldable pub announcing_bytes : Settings → Settings → ℕ → (ℕ → ℕ → Bool) → List ℕ
-announcing_bytes now next m labels = flat_map (λ k. sent_bytes (announcing_cell now next m labels k)) (numbers (carriers now.mode))
+announcing_bytes now next m labels = flat_map (λ k. sent_bytes (announcing_cell now next m labels k)) (numbers
+    (carriers now.mode))

@@ -22,8 +22,11 @@ FiveBytesACell = (cells : ℕ → Cell) (weights : ℕ → ℕ) (n : ℕ) → le
 
 -- a writable cell is recovered from its bytes ..
 abbrev pub CellsAreReadBack : Type 0
-CellsAreReadBack = (cells : ℕ → Cell) (weights : ℕ → ℕ) (n k : ℕ) (other : Cell) → k < n → IsWritable (cells k) (weights k) → slice_index_or (cells_from (bytes_of_cells cells weights n) n) k other ≡ cells k
+CellsAreReadBack = (cells : ℕ → Cell) (weights : ℕ → ℕ) (n k : ℕ) (other : Cell) → k < n
+    → IsWritable (cells k) (weights k) → slice_index_or (cells_from (bytes_of_cells cells weights n) n) k other
+    ≡ cells k
 
 -- .. and so is its weight
 abbrev pub WeightsAreReadBack : Type 0
-WeightsAreReadBack = (cells : ℕ → Cell) (weights : ℕ → ℕ) (n k other : ℕ) → k < n → IsWritable (cells k) (weights k) → get_or (weights_from (bytes_of_cells cells weights n) n) k other ≡ weights k
+WeightsAreReadBack = (cells : ℕ → Cell) (weights : ℕ → ℕ) (n k other : ℕ) → k < n → IsWritable (cells k) (weights k)
+    → get_or (weights_from (bytes_of_cells cells weights n) n) k other ≡ weights k

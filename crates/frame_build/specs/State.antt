@@ -1,5 +1,6 @@
 -- The state of a symbol builder.
-use Rattle.std.specs.Prelude.{◌≡◌, ◌≢◌, ℕ, zero, suc, ◌≤◌, ◌<◌, Bool, false, if◌then◌else◌, List, [], ◌∷◌, get_or, length, count_by, not, true, ◌+◌, ◌*◌, ◌^◌}
+use Rattle.std.specs.Prelude.{◌≡◌, ◌≢◌, ℕ, zero, suc, ◌≤◌, ◌<◌, Bool, false, if◌then◌else◌, List, [], ◌∷◌, get_or}
+use Rattle.std.specs.Prelude.{length, count_by, not, true, ◌+◌, ◌*◌, ◌^◌}
 use Rattle.spec_words.specs.Bits.{bit, xor, is_set}
 use Rattle.spec_words.specs.Words.{numbers}
 use Rattle.mode_set.specs.StreamTable.{carriers, label_bits}
@@ -15,7 +16,8 @@ use Rattle.qam_map.specs.declared.cell.Cell.{Cell}
 use Rattle.qam_map.specs.Points.{map_cell}
 use Rattle.frame_build.specs.Symbol.{real, sent_bytes, cells_from, weights_from}
 use Rattle.frame_build.specs.declared.carrier_content.CarrierContent.{CarrierContent}
-use Rattle.frame_build.specs.declared.carrier_content.CarrierContent.TheVariants.{Label, Pilot, OppositePilot, Signalling, OppositeSignalling}
+use Rattle.frame_build.specs.declared.carrier_content.CarrierContent.TheVariants.{Label, Pilot, OppositePilot}
+use Rattle.frame_build.specs.declared.carrier_content.CarrierContent.TheVariants.{Signalling, OppositeSignalling}
 
 -- the visible state: the settings, and the number of the next symbol in its super-frame of 272
 pub record NextSymbol : Type 0 where
@@ -29,7 +31,8 @@ is_turned word (suc l) = xor (is_turned word l) (bit word l)
 
 -- the bytes of the cells of all labels
 abbrev pub IsLabelTable : Shape → Hierarchy → List (List ℕ) → ℕ → Type 0
-IsLabelTable s h cells n = (label : ℕ) (d : List ℕ) → label < n → get_or cells label d ≡ sent_bytes (map_cell s h (is_set label))
+IsLabelTable s h cells n = (label : ℕ) (d : List ℕ) → label < n → get_or cells label d
+    ≡ sent_bytes (map_cell s h (is_set label))
 
 -- the content of a carrier, from its kind and its bit of the reference sequence
 abbrev pub source_of : CarrierKind → Bool → CarrierContent
@@ -76,13 +79,16 @@ place_of OppositeSignalling turned = 67 + (if turned then 4 else 0)
 -- the bytes for carriers without a label: TPS cells not inverted, then inverted
 abbrev pub other_cells : List (List ℕ)
 other_cells =
-    sent_bytes (real 21845 false) ∷ sent_bytes (real 21845 true) ∷ sent_bytes (real 16384 false) ∷ sent_bytes (real 16384 true)
-    ∷ sent_bytes (real 21845 false) ∷ sent_bytes (real 21845 true) ∷ sent_bytes (real 16384 true) ∷ sent_bytes (real 16384 false) ∷ []
+    sent_bytes (real 21845 false) ∷ sent_bytes (real 21845 true) ∷ sent_bytes (real 16384 false)
+    ∷ sent_bytes (real 16384 true)
+    ∷ sent_bytes (real 21845 false) ∷ sent_bytes (real 21845 true) ∷ sent_bytes (real 16384 true)
+    ∷ sent_bytes (real 16384 false) ∷ []
 
 -- the bytes of the cells of all labels, and those of other carriers
 pub record IsCellTable (s : Shape) (h : Hierarchy) (cells : List (List ℕ)) : Type 0 where
   pub labels : IsLabelTable s h cells (2 ^ label_bits s)
-  pub others : (source : CarrierContent) (turned : Bool) (label d : List ℕ) → source ≢ Label → get_or cells (place_of source turned) d ≡ bytes_sent source turned label
+  pub others : (source : CarrierContent) (turned : Bool) (label d : List ℕ) → source ≢ Label
+      → get_or cells (place_of source turned) d ≡ bytes_sent source turned label
 
 -- the next symbol of a super-frame, and the contents of the carriers in symbols 0 to 3
 pub record IsReady (m : Mode) (s : Settings) (number : ℕ) (lists : List (List CarrierContent)) : Type 0 where

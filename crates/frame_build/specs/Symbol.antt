@@ -1,5 +1,7 @@
--- The cells of an OFDM symbol, and their bytes and weights (EN 300 744, 4.4 to 4.6; the bytes and weights are this project's own).
-use Rattle.std.specs.Prelude.{ℕ, zero, suc, ◌+◌, ◌*◌, ◌/◌, ◌%◌, Bool, if◌then◌else◌, List, ◌++◌, map, [], ◌∷◌, flat_map, drop, slice_index, pos, neg_ℤ, ◌≡◌, ◌<◌}
+-- The cells of an OFDM symbol, and their bytes and weights (EN 300 744, 4.4 to 4.6; the bytes and weights are this
+-- project's own).
+use Rattle.std.specs.Prelude.{ℕ, zero, suc, ◌+◌, ◌*◌, ◌/◌, ◌%◌, Bool, if◌then◌else◌, List, ◌++◌, map, [], ◌∷◌, flat_map}
+use Rattle.std.specs.Prelude.{drop, slice_index, pos, neg_ℤ, ◌≡◌, ◌<◌}
 use Rattle.std.specs.Int.{cast_unsigned, cast_signed, w16}
 use Rattle.std.specs.Prelude.{get_or}
 use Rattle.byteorder.specs.Endian.{big_bytes, big_number}
@@ -64,7 +66,11 @@ bits_of labels q = is_set (get_or labels q 0)
 
 -- cell k of a list of bytes
 unfoldable pub cell_from : List ℕ → ℕ → Cell
-cell_from bytes k = record { re = cast_signed w16 (big_number 2 (drop (5 * k) bytes)); im = cast_signed w16 (big_number 2 (drop (5 * k + 2) bytes)) }
+cell_from bytes k = record {
+  re = cast_signed w16 (big_number 2 (drop (5 * k) bytes));
+  im
+      = cast_signed w16 (big_number 2 (drop (5 * k + 2) bytes));
+}
 
 -- the first n cells of a list of bytes
 unfoldable pub cells_from : List ℕ → ℕ → List Cell

@@ -5,8 +5,8 @@ ghost use Rattle.qam_map.specs.Points.{map_cell};
 ghost use Rattle.frame_build.specs.Symbol.{bits_of, real, sent_bytes};
 ghost use Rattle.frame_build.specs.State.{IsCellTable, IsLabelTable, bytes_sent, other_cells};
 
-use crate::five_bytes::cell_bytes;
 use crate::carrier_content::CarrierContent;
+use crate::five_bytes::cell_bytes;
 use mode_set::{Hierarchy, Shape};
 use qam_map::{Cell, map};
 
@@ -113,10 +113,17 @@ impl CellTable {
     }
 
     // The bytes of a carrier that sends this, behind those that sent the first `next` labels.
-    pub(crate) fn bytes(&self, source: CarrierContent, turned: bool, labels: &[u8], next: usize) -> [u8; 5]
+    pub(crate) fn bytes(
+        &self,
+        source: CarrierContent,
+        turned: bool,
+        labels: &[u8],
+        next: usize,
+    ) -> [u8; 5]
         requires next { source ≡ CarrierContent.Label → next < length labels.now }
         requires small { source ≡ CarrierContent.Label → get_or labels.now next 0 < 2 ^ label_bits self.now.shape }
-        ensures { result ≡ bytes_sent source turned (sent_bytes (map_cell self.now.shape self.now.hierarchy (bits_of labels.now next))) }
+        ensures { result ≡ bytes_sent source turned (sent_bytes
+            (map_cell self.now.shape self.now.hierarchy (bits_of labels.now next))) }
     {
         let place = match source {
             CarrierContent::Label => labels[next] as usize,

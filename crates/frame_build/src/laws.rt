@@ -11,13 +11,15 @@ use pilots::payload_carriers_are_numbered;
 /// A symbol's pilots and TPS cells are those of the symbol 272 before it, where the settings of both
 /// super-frames and those that they announce are the same: what stands around the labels repeats.
 pub fn symbols_repeat(m: u64)
-    ensures { (now : AnySettings) (next : AnySettings) (labels : ℕ → ℕ → Bool) → announcing_bytes now next m labels ≡ announcing_bytes now next (m % 272) labels }
+    ensures { (now : AnySettings) (next : AnySettings) (labels : ℕ → ℕ → Bool) → announcing_bytes now next m labels
+        ≡ announcing_bytes now next (m % 272) labels }
 {}
 
 /// A symbol depends on the bits of its labels alone: equal ones on each payload place give equal bytes,
 /// whatever the settings of the mode.
 pub fn symbols_follow_labels(mode: Mode, m: u64)
-    ensures { (now : AnySettings) (next : AnySettings) (labels : ℕ → ℕ → Bool) (more : ℕ → ℕ → Bool) → now.mode ≡ mode → Agree now labels more
+    ensures { (now : AnySettings) (next : AnySettings) (labels : ℕ → ℕ → Bool) (more : ℕ → ℕ → Bool) → now.mode ≡ mode
+        → Agree now labels more
         → announcing_bytes now next m labels ≡ announcing_bytes now next m more }
 {
     payload_carriers_are_numbered(mode, (m % 68) as u8);
@@ -25,7 +27,8 @@ pub fn symbols_follow_labels(mode: Mode, m: u64)
 
 /// A symbol that announces its own settings is that of a transmission whose parameters do not change.
 pub fn symbols_announce_themselves(settings: &Settings, m: u64)
-    ensures { (labels : ℕ → ℕ → Bool) → announcing_bytes settings.now settings.now m labels ≡ symbol_bytes settings.now m labels }
+    ensures { (labels : ℕ → ℕ → Bool) → announcing_bytes settings.now settings.now m labels
+        ≡ symbol_bytes settings.now m labels }
 {}
 
 /// The cells of a list that fit 16 bits on both axes, and weights of 15 at most, are read back from the

@@ -6,11 +6,11 @@
 //! 15. What is sent has weight 15 throughout.
 #![tactic(auto)]
 
-mod cell_file;
-mod five_bytes;
-mod cell_table;
-mod laws;
 mod carrier_content;
+mod cell_file;
+mod cell_table;
+mod five_bytes;
+mod laws;
 mod symbol_in;
 mod symbol_out;
 

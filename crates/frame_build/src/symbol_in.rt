@@ -1,5 +1,6 @@
 // From bytes that were cut anywhere to the cells of symbols and their weights.
-ghost use Rattle.std.specs.Prelude.{◌≡◌, ℕ, ◌+◌, ◌*◌, ◌≢◌, ◌<◌, ◌≤◌, ◌++◌, ◌↔◌, [], ◌-◌, min, take, length, slice_index, IfOk, IsTrue};
+ghost use Rattle.std.specs.Prelude.{◌≡◌, ℕ, ◌+◌, ◌*◌, ◌≢◌, ◌<◌, ◌≤◌, ◌++◌, ◌↔◌, [], ◌-◌, min, take, length};
+ghost use Rattle.std.specs.Prelude.{slice_index, IfOk, IsTrue};
 ghost use Rattle.frame_build.specs.Symbol.{cell_from, cells_from, weight_from, weights_from};
 
 use byteorder::{BigEndian, ByteOrder};

@@ -9,9 +9,9 @@ ghost use Rattle.frame_build.specs.Symbol.{bits_of, frame_of};
 ghost use Rattle.frame_build.specs.Announcing.{announcing_bytes};
 ghost use Rattle.frame_build.specs.State.{AreAllSources, AreSources, is_turned, source_of};
 
-use crate::five_bytes::{push_five, put_five};
-use crate::cell_table::CellTable;
 use crate::carrier_content::{CarrierContent, sources};
+use crate::cell_table::CellTable;
+use crate::five_bytes::{push_five, put_five};
 use mode_set::{Carriers, Entry, Settings};
 use pilots::{kinds_repeat, payload_carriers_are_numbered};
 use std::marker::{Model, PhantomData};
@@ -169,7 +169,8 @@ impl<M: Carriers> SymbolOut<M> {
         requires count { length labels.now ≡ M.NMAX }
         requires small { (q : ℕ) → q < M.NMAX → get_or labels.now q 0 < 2 ^ label_bits now.now.shape }
         requires spare { vec_len to.old + 5 * M.K ≤ vec_capacity to.old }
-        ensures bytes { to.new.items ≡ to.old.items ++ announcing_bytes (with_entry self.old.settings now.now) (with_entry self.old.settings next.now) self.old.number (bits_of labels.now) }
+        ensures bytes { to.new.items ≡ to.old.items ++ announcing_bytes (with_entry self.old.settings now.now)
+            (with_entry self.old.settings next.now) self.old.number (bits_of labels.now) }
         ensures len { vec_len to.new ≡ vec_len to.old + 5 * M.K }
         ensures capacity { vec_capacity to.new ≡ vec_capacity to.old }
         ensures settings { self.new.settings ≡ self.old.settings }
@@ -196,7 +197,8 @@ impl<M: Carriers> SymbolOut<M> {
         requires count { length labels.now ≡ M.NMAX }
         requires small { (q : ℕ) → q < M.NMAX → get_or labels.now q 0 < 2 ^ label_bits now.now.shape }
         requires long { length to.old ≡ 5 * M.K }
-        ensures bytes { to.new ≡ announcing_bytes (with_entry self.old.settings now.now) (with_entry self.old.settings next.now) self.old.number (bits_of labels.now) }
+        ensures bytes { to.new ≡ announcing_bytes (with_entry self.old.settings now.now)
+            (with_entry self.old.settings next.now) self.old.number (bits_of labels.now) }
         ensures settings { self.new.settings ≡ self.old.settings }
         ensures number { self.new.number ≡ (self.old.number + 1) % 272 }
     {

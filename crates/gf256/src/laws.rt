@@ -1,7 +1,8 @@
 // The laws of the field, as contracts of functions with empty bodies.
 
 ghost use Rattle.gf256.specs.Laws.{SumIsElement, SumCommutes, SumAssociates, ZeroAddsNothing, SumWithItself};
-ghost use Rattle.gf256.specs.Laws.{ProductIsElement, ProductCommutes, ProductAssociates, OneChangesNothing, ZeroTakesAll, NoZeroDivisors, ProductDistributes};
+ghost use Rattle.gf256.specs.Laws.{ProductIsElement, ProductCommutes, ProductAssociates, OneChangesNothing};
+ghost use Rattle.gf256.specs.Laws.{ZeroTakesAll, NoZeroDivisors, ProductDistributes};
 ghost use Rattle.gf256.specs.Laws.{EachIsPower, PowersDiffer, PowersAdd, PowersRepeat};
 
 /// Elements form a group under addition, and each is its own inverse.

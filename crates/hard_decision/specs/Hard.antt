@@ -11,7 +11,8 @@ use Rattle.qam_map.specs.declared.cell.Cell.{Cell}
 
 -- p is nearer to x than r, or as near and not less than r
 abbrev pub is_preferred : ℤ → Point → Point → Bool
-is_preferred x p r = nat_lt (distance x p.value) (distance x r.value) || ((distance x p.value == distance x r.value) && int_le r.value p.value)
+is_preferred x p r = nat_lt (distance x p.value) (distance x r.value)
+    || ((distance x p.value == distance x r.value) && int_le r.value p.value)
 
 -- the point of an axis nearest to x; of two the greater
 unfoldable pub nearest : Shape → Hierarchy → ℤ → Option Point

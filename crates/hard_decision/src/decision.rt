@@ -35,7 +35,8 @@ impl Model for HardDecision {
 
     ghost view = { λ d. (d.shape, d.hierarchy) };
 
-    ghost invariant = { λ d. (d.outer_below, d.inner_from, d.inner_below) ≡ bounds d.shape (levels_of d.shape d.hierarchy) };
+    ghost invariant = { λ d. (d.outer_below, d.inner_from, d.inner_below)
+        ≡ bounds d.shape (levels_of d.shape d.hierarchy) };
 }
 
 // Twice the middles that decide the bits after the sign.
@@ -86,7 +87,9 @@ impl HardDecision {
     /// How near a cell is to the point of a label, on each axis, for its bits to be decided as those of the label.
     pub fn safe_distance(&self) -> u16
         ensures few { result ≤ 11585 }
-        ensures decided { (label e : ℕ) (cell : AnyCell) → e < label_bits self.now.0 → distance cell.re (map_cell self.now.0 self.now.1 (is_set label)).re < result → distance cell.im (map_cell self.now.0 self.now.1 (is_set label)).im < result
+        ensures decided { (label e : ℕ) (cell : AnyCell) → e < label_bits self.now.0
+            → distance cell.re (map_cell self.now.0 self.now.1 (is_set label)).re < result
+            → distance cell.im (map_cell self.now.0 self.now.1 (is_set label)).im < result
             → hard_bit self.now.0 self.now.1 cell e ≡ is_set label e }
     {
         spacing(self.shape, self.hierarchy) / 2

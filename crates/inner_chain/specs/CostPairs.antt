@@ -30,19 +30,23 @@ weight_of weights k = weight_of_byte (get_or weights k full_weight)
 
 -- those costs, weighted by the cell's weight
 unfoldable pub weighted_costs_on : Settings → List Cell → List ℕ → ℕ → ℕ → ℕ → ℕ × ℕ
-weighted_costs_on s cells weights l q e = weighted (costs_on s cells l q e) (weight_of weights (slice_index (payload_carriers s.mode l) q))
+weighted_costs_on s cells weights l q e = weighted (costs_on s cells l q e) (weight_of weights
+    (slice_index (payload_carriers s.mode l) q))
 
 -- the weighted costs of coded bit d, from the cell of its payload carrier and the axis of its label bit
 abbrev pub costs_of_bit : Settings → List Cell → List ℕ → ℕ → Stream → ℕ → ℕ × ℕ
-costs_of_bit s cells weights l σ d = weighted_costs_on s cells weights l (payload_place s l σ d) (place_in_label s.shape s.hierarchy σ d)
+costs_of_bit s cells weights l σ d = weighted_costs_on s cells weights l (payload_place s l σ d) (place_in_label s.shape
+    s.hierarchy σ d)
 
 -- the cost pair of step t: the weighted costs of its X and its Y, 0 for a punctured bit
-pub record IsPairOf (s : Settings) (cells : List Cell) (weights : List ℕ) (l : ℕ) (σ : Stream) (t : ℕ) (c : CostPair) : Type 0 where
+pub record IsPairOf (s : Settings) (cells : List Cell) (weights : List ℕ) (l : ℕ) (σ : Stream) (t : ℕ) (c : CostPair) :
+    Type 0 where
   pub x : (c.x0, c.x1) ≡ costs_at (costs_of_bit s cells weights l σ) (number_of (rate s σ) X t)
   pub y : (c.y0, c.y1) ≡ costs_at (costs_of_bit s cells weights l σ) (number_of (rate s σ) Y t)
 
 -- one pair for each step of a symbol is appended to a list
-pub record AppendsPairs (s : Settings) (cells : List Cell) (weights : List ℕ) (l : ℕ) (σ : Stream) (old new : List CostPair) : Type 0 where
+pub record AppendsPairs (s : Settings) (cells : List Cell) (weights : List ℕ) (l : ℕ) (σ : Stream)
+    (old new : List CostPair) : Type 0 where
   pub pairs : List CostPair
   pub long : length pairs ≡ need s σ
   pub at : (t : ℕ) (d : CostPair) → t < need s σ → IsPairOf s cells weights l σ t (slice_index_or pairs t d)

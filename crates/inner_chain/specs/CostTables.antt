@@ -1,5 +1,6 @@
 -- What the tables of the receiving side hold.
-use Rattle.std.specs.Prelude.{◌≡◌, ℕ, ◌+◌, ◌*◌, ◌/◌, ◌%◌, ◌<◌, ◌≤◌, Bool, if◌then◌else◌, List, ◌++◌, ◌∷◌, [], length, Option, Some, None, slice_index, slice_index_or, ⊤}
+use Rattle.std.specs.Prelude.{◌≡◌, ℕ, ◌+◌, ◌*◌, ◌/◌, ◌%◌, ◌<◌, ◌≤◌, Bool, if◌then◌else◌, List, ◌++◌, ◌∷◌, [], length}
+use Rattle.std.specs.Prelude.{Option, Some, None, slice_index, slice_index_or, ⊤}
 use Rattle.mode_set.specs.StreamTable.{payload, label_bits, carriers, need, rate}
 use Rattle.mode_set.specs.declared.modes.Mode.{Mode}
 use Rattle.mode_set.specs.declared.modes.Shape.{Shape}
@@ -26,7 +27,8 @@ use Rattle.inner_chain.specs.Tables.{most_steps}
 abbrev pub most_places : Mode → ℕ
 most_places m = 6 * payload m
 
--- the number of the costs of a coded bit among those of all places of all words, the number behind the most for an unsent bit
+-- the number of the costs of a coded bit among those of all places of all words, the number behind the most for an
+-- unsent bit
 abbrev pub entry_at : Settings → Stream → Option ℕ → ℕ
 entry_at s σ None = most_places s.mode
 entry_at s σ (Some d) = place_in_label s.shape s.hierarchy σ d * payload s.mode + word_of_bit s.shape s.hierarchy σ d
@@ -37,7 +39,8 @@ IsSmallEntry s n = n ≤ most_places s.mode
 -- the word and the place of a coded bit are among the symbol's
 abbrev pub IsPlaced : Settings → Stream → Option ℕ → Type 0
 IsPlaced s σ None = ⊤
-IsPlaced s σ (Some d) = (word_of_bit s.shape s.hierarchy σ d < payload s.mode) × (place_in_label s.shape s.hierarchy σ d < label_bits s.shape)
+IsPlaced s σ (Some d) = (word_of_bit s.shape s.hierarchy σ d < payload s.mode)
+    × (place_in_label s.shape s.hierarchy σ d < label_bits s.shape)
 
 abbrev pub count_of : Bool → ℕ
 count_of b = if b then 1 else 0
@@ -59,7 +62,8 @@ pub record AreCostEntries (s : Settings) (σ : Stream) (n : ℕ) (entries : List
 abbrev pub carrier_of_word : Mode → ℕ → ℕ → ℕ
 carrier_of_word m l w = slice_index (payload_carriers m l) (place_of_word m (is_odd l) w)
 
--- the carriers of the words of the symbols 0 to 3, one symbol after another: pilots and parity repeat after four symbols
+-- the carriers of the words of the symbols 0 to 3, one symbol after another: pilots and parity repeat after four
+-- symbols
 pub record AreCarriers (m : Mode) (n : ℕ) (list : List ℕ) : Type 0 where
   pub long : length list ≡ n
   pub at : (k : ℕ) → k < n → slice_index list k ≡ carrier_of_word m (k / payload m) (k % payload m)
@@ -79,7 +83,8 @@ pair_at costs n = slice_index_or costs n (0, 0)
 
 -- the weighted costs of all places of all words of symbol l: those of place 0 first
 pub record AreCosts (s : Settings) (cells : List Cell) (weights : List ℕ) (l : ℕ) (costs : List (ℕ × ℕ)) : Type 0 where
-  pub at : (w e : ℕ) → w < payload s.mode → e < label_bits s.shape → pair_at costs (e * payload s.mode + w) ≡ weighted_costs_on s cells weights l (place_of_word s.mode (is_odd l) w) e
+  pub at : (w e : ℕ) → w < payload s.mode → e < label_bits s.shape → pair_at costs (e * payload s.mode + w)
+      ≡ weighted_costs_on s cells weights l (place_of_word s.mode (is_odd l) w) e
 
 -- space for the costs of any labels; its last pair is 0, and no cost exceeds 4095
 pub record IsRoom (m : Mode) (costs : List (ℕ × ℕ)) : Type 0 where
@@ -111,8 +116,10 @@ pub record AreWordWeights (m : Mode) (weights : List ℕ) (l n : ℕ) (list : Li
 pub record AppendsRead (costs : List (ℕ × ℕ)) (entries : List ℕ) (n : ℕ) (old new : List CostPair) : Type 0 where
   pub pairs : List CostPair
   pub long : length pairs ≡ n
-  pub x : (t : ℕ) (d : CostPair) → t < n → ((slice_index_or pairs t d).x0, (slice_index_or pairs t d).x1) ≡ pair_at costs (slice_index entries (2 * t))
-  pub y : (t : ℕ) (d : CostPair) → t < n → ((slice_index_or pairs t d).y0, (slice_index_or pairs t d).y1) ≡ pair_at costs (slice_index entries (2 * t + 1))
+  pub x : (t : ℕ) (d : CostPair) → t < n → ((slice_index_or pairs t d).x0, (slice_index_or pairs t d).x1)
+      ≡ pair_at costs (slice_index entries (2 * t))
+  pub y : (t : ℕ) (d : CostPair) → t < n → ((slice_index_or pairs t d).y0, (slice_index_or pairs t d).y1)
+      ≡ pair_at costs (slice_index entries (2 * t + 1))
   pub is : new ≡ old ++ pairs
 
 -- a table of the entries of all steps of a stream in a symbol, in room for the most steps
@@ -121,7 +128,8 @@ pub record IsCostTable (s : Settings) (σ : Stream) (entries : List ℕ) (room :
   pub spare : 2 * most_steps s.mode ≤ room
 
 -- the metric of these parameters, and the tables of both streams
-pub record AreCostTables (s : Settings) (metric : Shape × Hierarchy) (hp lp : List ℕ) (hp_room lp_room : ℕ) : Type 0 where
+pub record AreCostTables (s : Settings) (metric : Shape × Hierarchy) (hp lp : List ℕ) (hp_room lp_room : ℕ) : Type
+    0 where
   pub metric_is : metric ≡ (s.shape, s.hierarchy)
   pub of_hp : IsCostTable s Hp hp hp_room
   pub of_lp : IsCostTable s Lp lp lp_room
@@ -141,7 +149,8 @@ pub record CostsState : Type 0 where
   pub costs : List (ℕ × ℕ)
 
 -- what they are found from: the carriers of the words, and room
-pub record IsCostRoom (m : Mode) (carrier_table : List ℕ) (cells : List Cell) (weights : List ℕ) (costs : List (ℕ × ℕ)) : Type 0 where
+pub record IsCostRoom (m : Mode) (carrier_table : List ℕ) (cells : List Cell) (weights : List ℕ) (costs : List (ℕ × ℕ))
+    : Type 0 where
   pub are_carriers : AreCarriers m (4 * payload m) carrier_table
   pub cells_long : length cells ≡ payload m
   pub weight_room : IsWeightRoom m weights

@@ -23,7 +23,8 @@ label_bit s odd bits q e = bits (stream_at s.hierarchy e) (number_at s e (carrie
 pub record AreLabels (s : Settings) (odd : Bool) (bits : Stream → ℕ → Bool) (labels : List ℕ) : Type 0 where
   pub long : length labels ≡ payload s.mode
   pub small : (q : ℕ) → q < payload s.mode → slice_index labels q < 2 ^ label_bits s.shape
-  pub bit : (q e : ℕ) → q < payload s.mode → e < label_bits s.shape → is_set (slice_index labels q) e ≡ label_bit s odd bits q e
+  pub bit : (q e : ℕ) → q < payload s.mode → e < label_bits s.shape → is_set (slice_index labels q) e
+      ≡ label_bit s odd bits q e
 
 -- the labels of a symbol are appended to a list
 pub record AppendsLabels (s : Settings) (odd : Bool) (bits : Stream → ℕ → Bool) (old new : List ℕ) : Type 0 where

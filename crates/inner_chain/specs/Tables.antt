@@ -1,5 +1,6 @@
 -- The contents of the code's tables and intermediate lists.
-use Rattle.std.specs.Prelude.{◌≡◌, ℕ, ◌+◌, ◌-◌, ◌*◌, ◌/◌, ◌%◌, ◌^◌, ◌<◌, ◌≤◌, Bool, true, false, List, [], ◌∷◌, ◌++◌, length, get_or, slice_index, take, drop}
+use Rattle.std.specs.Prelude.{◌≡◌, ℕ, ◌+◌, ◌-◌, ◌*◌, ◌/◌, ◌%◌, ◌^◌, ◌<◌, ◌≤◌, Bool, true, false, List, [], ◌∷◌, ◌++◌}
+use Rattle.std.specs.Prelude.{length, get_or, slice_index, take, drop}
 use Rattle.spec_words.specs.Bits.{is_set, spelled}
 use Rattle.code_paths.specs.Paths.{parity_x, parity_y}
 use Rattle.mode_set.specs.StreamTable.{payload, label_bits, need, rate}
@@ -24,7 +25,8 @@ pub record AreParities (path : ℕ → Bool) (first count : ℕ) (xs : List Bool
 
 -- X and Y of the four steps whose inputs are the lowest ten bits of a number, the oldest the most significant
 abbrev pub row_of : ℕ → List Bool
-row_of n = let p = spelled 10 n in parity_x p ∷ parity_y p ∷ parity_x (drop 1 p) ∷ parity_y (drop 1 p) ∷ parity_x (drop 2 p) ∷ parity_y (drop 2 p) ∷ parity_x (drop 3 p) ∷ parity_y (drop 3 p) ∷ []
+row_of n = let p = spelled 10 n in parity_x p ∷ parity_y p ∷ parity_x (drop 1 p) ∷ parity_y (drop 1 p)
+    ∷ parity_x (drop 2 p) ∷ parity_y (drop 2 p) ∷ parity_x (drop 3 p) ∷ parity_y (drop 3 p) ∷ []
 
 -- the rows of the numbers below `count`
 pub record AreRows (rows : List (List Bool)) (count : ℕ) : Type 0 where
@@ -36,7 +38,8 @@ pub record IsEncoded (w e x : List Bool) (first n i : ℕ) (waiting register xs 
   pub left : waiting ≡ drop i w
   pub size : length e ≡ 6 → length register ≡ 6
   pub after : (path : ℕ → Bool) → e ≡ bits_from path 0 6 → take n w ≡ bits_from path 6 n → register ≡ bits_from path i 6
-  pub parities : (path : ℕ → Bool) → e ≡ bits_from path 0 6 → take n w ≡ bits_from path 6 n → (t k : ℕ) → t < i → k < 2 → read_bit xs (2 * (first + t) + k) ≡ parity_at k path t
+  pub parities : (path : ℕ → Bool) → e ≡ bits_from path 0 6 → take n w ≡ bits_from path 6 n → (t k : ℕ) → t < i → k < 2
+      → read_bit xs (2 * (first + t) + k) ≡ parity_at k path t
   pub before : (k : ℕ) → k < 2 * first → read_bit xs k ≡ read_bit x k
 
 -- a label whose bits are read at these entries
@@ -64,12 +67,14 @@ first_step s Lp = need s Hp
 pub record IsEntry (s : Settings) (e w n : ℕ) : Type 0 where
   pub from : first_step s (stream_at s.hierarchy e) ≤ n / 2
   pub to : n / 2 < first_step s (stream_at s.hierarchy e) + need s (stream_at s.hierarchy e)
-  pub reads : (path : ℕ → Bool) → sent_bit (rate s (stream_at s.hierarchy e)) path (number_at s e w) ≡ parity_at (n % 2) path (n / 2 - first_step s (stream_at s.hierarchy e))
+  pub reads : (path : ℕ → Bool) → sent_bit (rate s (stream_at s.hierarchy e)) path (number_at s e w)
+      ≡ parity_at (n % 2) path (n / 2 - first_step s (stream_at s.hierarchy e))
 
 -- the entries of all labels of a symbol in carrier order
 pub record AreEntries (s : Settings) (odd : Bool) (entries : List ℕ) : Type 0 where
   pub long : length entries ≡ payload s.mode * label_bits s.shape
-  pub at : (q e : ℕ) → q < payload s.mode → e < label_bits s.shape → IsEntry s e (carried s.mode odd q) (slice_index entries (q * label_bits s.shape + e))
+  pub at : (q e : ℕ) → q < payload s.mode → e < label_bits s.shape
+      → IsEntry s e (carried s.mode odd q) (slice_index entries (q * label_bits s.shape + e))
 
 -- the entries of the first `count` label bits of a word are appended to a list
 pub record AppendsEntries (s : Settings) (w count : ℕ) (old new : List ℕ) : Type 0 where
@@ -89,7 +94,8 @@ pub record IsLabelTable (s : Settings) (odd : Bool) (entries : List ℕ) (room :
 
 -- The state of an inner coder of a mode. Its tables are those of the last symbol's parameters, and it has space for the
 -- parities of the most steps.
-pub record IsTx (m : Mode) (s : Settings) (latest : Entry) (hp lp : List Bool) (even odd : List ℕ) (even_room odd_room : ℕ) (rows : List (List Bool)) (parities : List Bool) : Type 0 where
+pub record IsTx (m : Mode) (s : Settings) (latest : Entry) (hp lp : List Bool) (even odd : List ℕ)
+    (even_room odd_room : ℕ) (rows : List (List Bool)) (parities : List Bool) : Type 0 where
   pub mode : s.mode ≡ m
   pub hp_long : length hp ≡ 6
   pub lp_long : length lp ≡ 6
@@ -100,4 +106,5 @@ pub record IsTx (m : Mode) (s : Settings) (latest : Entry) (hp lp : List Bool) (
 
 -- X and Y of the steps of a symbol on both paths, HP first
 pub record AreAllParities (s : Settings) (paths : Paths) (xs : List Bool) : Type 0 where
-  pub at : (σ : Stream) (t k : ℕ) → t < need s σ → k < 2 → read_bit xs (2 * (first_step s σ + t) + k) ≡ parity_at k (paths σ) t
+  pub at : (σ : Stream) (t k : ℕ) → t < need s σ → k < 2 → read_bit xs (2 * (first_step s σ + t) + k)
+      ≡ parity_at k (paths σ) t

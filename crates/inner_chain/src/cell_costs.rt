@@ -1,7 +1,8 @@
 // The costs of all places of the words of a symbol.
 ghost use Rattle.std.specs.Prelude.{◌≡◌, ◌*◌, IfOk, length};
 ghost use Rattle.mode_set.specs.StreamTable.{carriers, payload};
-ghost use Rattle.inner_chain.specs.CostTables.{AreCarriers, AreCosts, AreWeights, AreWordCells, AreWordWeights, IsRoom, IsWeightRoom};
+ghost use Rattle.inner_chain.specs.CostTables.{AreCarriers, AreCosts, AreWeights, AreWordCells, AreWordWeights, IsRoom};
+ghost use Rattle.inner_chain.specs.CostTables.{IsWeightRoom};
 
 use crate::cost_entries::carriers_of;
 use mode_set::{Carriers, Mode, Settings};

@@ -2,7 +2,8 @@
 ghost use Rattle.std.specs.Prelude.{◌≡◌, ◌+◌, ◌*◌, ◌<◌, ◌≤◌, IfOk, Some, None, if◌then◌else◌, vec_capacity, vec_len};
 ghost use Rattle.mode_set.specs.StreamTable.{coded, payload};
 ghost use Rattle.puncture.specs.Steps.{has_x, has_y};
-ghost use Rattle.inner_chain.specs.CostTables.{AppendsTwo, AreCarriers, IsCostTable, IsPlaced, IsSmallEntry, count_of, entry_at, most_places, second};
+ghost use Rattle.inner_chain.specs.CostTables.{AppendsTwo, AreCarriers, IsCostTable, IsPlaced, IsSmallEntry, count_of};
+ghost use Rattle.inner_chain.specs.CostTables.{entry_at, most_places, second};
 ghost use Rattle.inner_chain.specs.Tables.{most_steps};
 
 use bit_interleave::place;
@@ -36,7 +37,8 @@ fn push_step(settings: &Settings, stream: Stream, sent: Sent, bit: u32, to: &mut
     requires spare { vec_len to.old + 2 ≤ vec_capacity to.old }
     requires within { bit + count_of (has_x sent) + count_of (has_y sent) ≤ coded settings.now stream }
     ensures next { result ≡ bit + count_of (has_x sent) + count_of (has_y sent) }
-    ensures entries { AppendsTwo settings.now stream (if has_x sent then Some bit else None) (if has_y sent then Some (second (has_x sent) bit) else None) to.old.items to.new.items }
+    ensures entries { AppendsTwo settings.now stream (if has_x sent then Some bit else None)
+        (if has_y sent then Some (second (has_x sent) bit) else None) to.old.items to.new.items }
     ensures capacity { vec_capacity to.new ≡ vec_capacity to.old }
 {
     match sent {

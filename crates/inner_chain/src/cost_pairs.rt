@@ -1,5 +1,6 @@
 // Cost pairs out of the costs of all places.
-ghost use Rattle.std.specs.Prelude.{◌≡◌, ◌+◌, ◌*◌, ◌<◌, ◌≤◌, [], ℕ, drop, length, slice_index, take, vec_capacity, vec_len};
+ghost use Rattle.std.specs.Prelude.{◌≡◌, ◌+◌, ◌*◌, ◌<◌, ◌≤◌, [], ℕ, drop, length, slice_index, take, vec_capacity};
+ghost use Rattle.std.specs.Prelude.{vec_len};
 ghost use Rattle.soft_metric.specs.Squares.{IsSmallPair};
 ghost use Rattle.inner_chain.specs.CostTables.{AppendsRead, pair_at};
 

@@ -32,7 +32,8 @@ impl Model for CostTables {
 
     ghost view = { λ t. record { settings = t.settings; latest = t.latest } };
 
-    ghost invariant = { λ t. AreCostTables (with_entry t.settings t.latest) t.metric t.hp.items t.lp.items (vec_capacity t.hp) (vec_capacity t.lp) };
+    ghost invariant = { λ t. AreCostTables (with_entry t.settings t.latest) t.metric t.hp.items t.lp.items
+        (vec_capacity t.hp) (vec_capacity t.lp) };
 }
 
 impl CostTables {

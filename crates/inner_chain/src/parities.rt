@@ -20,8 +20,10 @@ fn bit_of(number: u16, place: u8) -> bool
 // X and Y of a step, of whose seven inputs the newest is bit `place`.
 fn taps(inputs: u16, place: u8) -> (bool, bool)
     requires { place < 4 }
-    ensures x { result.0 ≡ xor (is_set inputs place) (xor (is_set inputs (place + 1)) (xor (is_set inputs (place + 2)) (xor (is_set inputs (place + 3)) (is_set inputs (place + 6))))) }
-    ensures y { result.1 ≡ xor (is_set inputs place) (xor (is_set inputs (place + 2)) (xor (is_set inputs (place + 3)) (xor (is_set inputs (place + 5)) (is_set inputs (place + 6))))) }
+    ensures x { result.0 ≡ xor (is_set inputs place) (xor (is_set inputs (place + 1))
+        (xor (is_set inputs (place + 2)) (xor (is_set inputs (place + 3)) (is_set inputs (place + 6))))) }
+    ensures y { result.1 ≡ xor (is_set inputs place) (xor (is_set inputs (place + 2))
+        (xor (is_set inputs (place + 3)) (xor (is_set inputs (place + 5)) (is_set inputs (place + 6))))) }
 {
     let [newest, third] = [bit_of(inputs, place), bit_of(inputs, place + 2)];
     let [fourth, oldest] = [bit_of(inputs, place + 3), bit_of(inputs, place + 6)];
@@ -87,7 +89,9 @@ fn encode_byte(
     requires rows { AreRows rows.now 1024 }
     requires enough { 8 ≤ length waiting.old }
     requires room { 2 * (first + done + 8) ≤ length to.old }
-    ensures goes { (w e x : List Bool) (n : ℕ) → done + 8 ≤ n → IsEncoded w e x first n done waiting.old encoder.old to.old → IsEncoded w e x first n (done + 8) waiting.new encoder.new to.new }
+    ensures goes { (w e x : List Bool) (n : ℕ) → done + 8 ≤ n
+        → IsEncoded w e x first n done waiting.old encoder.old to.old
+        → IsEncoded w e x first n (done + 8) waiting.new encoder.new to.new }
 {
     let inputs = encoder.push_byte(waiting.take_byte().unwrap());
     write_eight(rows, inputs, to, 2 * (first + done));
@@ -104,7 +108,8 @@ fn encode_bytes(
 )
     requires rows { AreRows rows.now 1024 }
     requires room { 2 * (first + done + 8 * length bytes.now) ≤ length to.old }
-    ensures goes { (w e x rest : List Bool) (n : ℕ) → done + 8 * length bytes.now ≤ n → IsEncoded w e x first n done (bits_of_bytes bytes.now ++ rest) encoder.old to.old
+    ensures goes { (w e x rest : List Bool) (n : ℕ) → done + 8 * length bytes.now ≤ n
+        → IsEncoded w e x first n done (bits_of_bytes bytes.now ++ rest) encoder.old to.old
         → IsEncoded w e x first n (done + 8 * length bytes.now) rest encoder.new to.new }
 {
     for index in 0..bytes.len() {
@@ -125,7 +130,9 @@ fn encode_chunk(
     requires rows { AreRows rows.now 1024 }
     requires enough { 512 ≤ length waiting.old }
     requires room { 2 * (first + done + 512) ≤ length to.old }
-    ensures goes { (w e x : List Bool) (n : ℕ) → done + 512 ≤ n → IsEncoded w e x first n done waiting.old encoder.old to.old → IsEncoded w e x first n (done + 512) waiting.new encoder.new to.new }
+    ensures goes { (w e x : List Bool) (n : ℕ) → done + 512 ≤ n
+        → IsEncoded w e x first n done waiting.old encoder.old to.old
+        → IsEncoded w e x first n (done + 512) waiting.new encoder.new to.new }
 {
     let mut bytes = [0; 64];
     waiting.take_bytes(&mut bytes);
@@ -142,7 +149,9 @@ fn encode_bit(
 )
     requires enough { 1 ≤ length waiting.old }
     requires room { 2 * (first + done + 1) ≤ length to.old }
-    ensures goes { (w e x : List Bool) (n : ℕ) → done + 1 ≤ n → IsEncoded w e x first n done waiting.old encoder.old to.old → IsEncoded w e x first n (done + 1) waiting.new encoder.new to.new }
+    ensures goes { (w e x : List Bool) (n : ℕ) → done + 1 ≤ n
+        → IsEncoded w e x first n done waiting.old encoder.old to.old
+        → IsEncoded w e x first n (done + 1) waiting.new encoder.new to.new }
 {
     let (x, y) = encoder.step(waiting.take_bit().unwrap());
     to[2 * (first + done)] = x;
@@ -162,8 +171,10 @@ pub(crate) fn encode(
     requires enough { count ≤ length waiting.old }
     requires room { 2 * (first + count) ≤ length to.old }
     ensures taken { waiting.new ≡ drop count waiting.old }
-    ensures register { (path : ℕ → Bool) → encoder.old ≡ bits_from path 0 6 → take count waiting.old ≡ bits_from path 6 count → encoder.new ≡ bits_from path count 6 }
-    ensures parities { (path : ℕ → Bool) → encoder.old ≡ bits_from path 0 6 → take count waiting.old ≡ bits_from path 6 count → AreParities path first count to.new }
+    ensures register { (path : ℕ → Bool) → encoder.old ≡ bits_from path 0 6 → take count waiting.old
+        ≡ bits_from path 6 count → encoder.new ≡ bits_from path count 6 }
+    ensures parities { (path : ℕ → Bool) → encoder.old ≡ bits_from path 0 6 → take count waiting.old
+        ≡ bits_from path 6 count → AreParities path first count to.new }
     ensures before { (k : ℕ) → k < 2 * first → bit to.new k ≡ bit to.old k }
     ensures size { length encoder.old ≡ 6 → length encoder.new ≡ 6 }
 {

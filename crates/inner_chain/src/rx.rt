@@ -80,7 +80,8 @@ impl<M: Carriers> InnerRx<M> {
         requires symbol { l < 68 }
         requires exists { IsTrue (has_stream entry.now.hierarchy stream) }
         requires spare { vec_len to.old + need (with_entry self.old entry.now) stream ≤ vec_capacity to.old }
-        ensures pairs { AppendsPairs (with_entry self.old entry.now) cells.now weights.now l stream to.old.items to.new.items }
+        ensures pairs { AppendsPairs (with_entry self.old entry.now) cells.now weights.now l stream to.old.items
+            to.new.items }
         ensures settings { self.new ≡ self.old }
         ensures capacity { vec_capacity to.new ≡ vec_capacity to.old }
     {

@@ -29,7 +29,8 @@ fn y(step: u32) -> Parity
 fn parity_in_period(rate: Rate, place: u32) -> Parity
     requires { place < sent_in_period rate }
     ensures step { result.step < steps_in_period rate }
-    ensures sent { slice_index_or (sent rate) place (X 1) ≡ (if result.is_y then Y (result.step + 1) else X (result.step + 1)) }
+    ensures sent { slice_index_or (sent rate) place (X 1) ≡ (if result.is_y then Y (result.step + 1) else X
+        (result.step + 1)) }
 {
     match rate {
         Rate::R1of2 => match place {
@@ -71,8 +72,10 @@ fn parity_in_period(rate: Rate, place: u32) -> Parity
 // The parity that is bit `bit` of the sent bits of a path.
 pub(crate) fn parity_of(rate: Rate, bit: u32) -> Parity
     requires { bit < 65536 }
-    ensures reads { (path : ℕ → Bool) → sent_bit rate path bit ≡ parity_at (if result.is_y then 1 else 0) path result.step }
-    ensures within { (periods : ℕ) → bit < periods * sent_in_period rate → result.step < periods * steps_in_period rate }
+    ensures reads { (path : ℕ → Bool) → sent_bit rate path bit
+        ≡ parity_at (if result.is_y then 1 else 0) path result.step }
+    ensures within { (periods : ℕ) → bit < periods * sent_in_period rate
+        → result.step < periods * steps_in_period rate }
 {
     let period = bit / rate.sent_in_period() as u32;
     let parity = parity_in_period(rate, bit % rate.sent_in_period() as u32);

@@ -31,11 +31,15 @@ pub(crate) fn code(
     ensures lp { lp.new ≡ drop (need settings.now Lp) lp.old }
     ensures hp_size { length hp_encoder.old ≡ 6 → length hp_encoder.new ≡ 6 }
     ensures lp_size { length lp_encoder.old ≡ 6 → length lp_encoder.new ≡ 6 }
-    ensures parities { (s : AnySettings) (paths : Paths) → IsBefore (record { settings = s; hp = hp_encoder.old; lp = lp_encoder.old }) paths
-        → take (need settings.now Hp) hp.old ≡ input_bits settings.now paths Hp → take (need settings.now Lp) lp.old ≡ input_bits settings.now paths Lp
+    ensures parities { (s : AnySettings) (paths : Paths) → IsBefore (record
+        { settings = s; hp = hp_encoder.old; lp = lp_encoder.old }) paths
+        → take (need settings.now Hp) hp.old ≡ input_bits settings.now paths Hp → take (need settings.now Lp) lp.old
+        ≡ input_bits settings.now paths Lp
         → AreAllParities settings.now paths parities.new }
-    ensures next { (s : AnySettings) (paths : Paths) → IsBefore (record { settings = s; hp = hp_encoder.old; lp = lp_encoder.old }) paths
-        → take (need settings.now Hp) hp.old ≡ input_bits settings.now paths Hp → take (need settings.now Lp) lp.old ≡ input_bits settings.now paths Lp
+    ensures next { (s : AnySettings) (paths : Paths) → IsBefore (record
+        { settings = s; hp = hp_encoder.old; lp = lp_encoder.old }) paths
+        → take (need settings.now Hp) hp.old ≡ input_bits settings.now paths Hp → take (need settings.now Lp) lp.old
+        ≡ input_bits settings.now paths Lp
         → IsBefore (record { settings = s; hp = hp_encoder.new; lp = lp_encoder.new }) (behind settings.now paths) }
 {
     let hp_steps = settings.need(Stream::Hp) as usize;

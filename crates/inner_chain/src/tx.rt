@@ -6,7 +6,8 @@ ghost use Rattle.mode_set.specs.declared.modes.Stream.{Stream as AnyStream};
 ghost use Rattle.mode_set.specs.declared.modes.Stream.TheVariants.{Hp, Lp};
 ghost use Rattle.puncture.specs.SentBits.{bits_from};
 ghost use Rattle.conv_code.specs.Coded.{zeros};
-ghost use Rattle.inner_chain.specs.Labels.{AppendsLabels, IsBefore, Paths, behind, coded_bits, from_step, input_bits, register_of};
+ghost use Rattle.inner_chain.specs.Labels.{AppendsLabels, IsBefore, Paths, behind, coded_bits, from_step, input_bits};
+ghost use Rattle.inner_chain.specs.Labels.{register_of};
 
 use crate::entries::label_table;
 use crate::label_tables::{table_of, turn_label_tables};
@@ -48,7 +49,8 @@ impl<M: Carriers> Model for InnerTx<M> {
 
     ghost view = { λ t. record { settings = t.settings; hp = t.hp; lp = t.lp } };
 
-    ghost invariant = { λ t. IsTx M.MODE t.settings t.latest t.hp t.lp t.even.items t.odd.items (vec_capacity t.even) (vec_capacity t.odd) t.rows.items t.parities.items };
+    ghost invariant = { λ t. IsTx M.MODE t.settings t.latest t.hp t.lp t.even.items t.odd.items (vec_capacity t.even)
+        (vec_capacity t.odd) t.rows.items t.parities.items };
 }
 
 impl<M: Carriers> InnerTx<M> {
@@ -115,12 +117,17 @@ impl<M: Carriers> InnerTx<M> {
         // Before any paths whose input bits wait, the labels are those of their first coded bits, and
         // afterwards it is before what follows of them.
         ensures labels { (paths : Paths) → IsBefore self.old paths
-            → take (need (with_entry self.old.settings entry.now) Hp) hp.old ≡ input_bits (with_entry self.old.settings entry.now) paths Hp
-            → take (need (with_entry self.old.settings entry.now) Lp) lp.old ≡ input_bits (with_entry self.old.settings entry.now) paths Lp
-            → AppendsLabels (with_entry self.old.settings entry.now) odd (coded_bits (with_entry self.old.settings entry.now) paths) to.old.items to.new.items }
+            → take (need (with_entry self.old.settings entry.now) Hp) hp.old
+            ≡ input_bits (with_entry self.old.settings entry.now) paths Hp
+            → take (need (with_entry self.old.settings entry.now) Lp) lp.old
+            ≡ input_bits (with_entry self.old.settings entry.now) paths Lp
+            → AppendsLabels (with_entry self.old.settings entry.now) odd
+            (coded_bits (with_entry self.old.settings entry.now) paths) to.old.items to.new.items }
         ensures next { (paths : Paths) → IsBefore self.old paths
-            → take (need (with_entry self.old.settings entry.now) Hp) hp.old ≡ input_bits (with_entry self.old.settings entry.now) paths Hp
-            → take (need (with_entry self.old.settings entry.now) Lp) lp.old ≡ input_bits (with_entry self.old.settings entry.now) paths Lp
+            → take (need (with_entry self.old.settings entry.now) Hp) hp.old
+            ≡ input_bits (with_entry self.old.settings entry.now) paths Hp
+            → take (need (with_entry self.old.settings entry.now) Lp) lp.old
+            ≡ input_bits (with_entry self.old.settings entry.now) paths Lp
             → IsBefore self.new (behind (with_entry self.old.settings entry.now) paths) }
     {
         turn_label_tables(
@@ -149,7 +156,8 @@ impl<M: Carriers> InnerTx<M> {
     pub fn skip_bit(&mut self, stream: Stream, bit: bool)
         ensures settings { self.new.settings ≡ self.old.settings }
         // Before a path that has this bit, it is afterwards before what follows of the path.
-        ensures next { (path : ℕ → Bool) → register_of self.old stream ≡ bits_from path 0 6 → path 6 ≡ bit → register_of self.new stream ≡ bits_from (from_step path 1) 0 6 }
+        ensures next { (path : ℕ → Bool) → register_of self.old stream ≡ bits_from path 0 6 → path 6 ≡ bit
+            → register_of self.new stream ≡ bits_from (from_step path 1) 0 6 }
         ensures other { (σ : AnyStream) → σ ≢ stream → register_of self.new σ ≡ register_of self.old σ }
     {
         match stream {

@@ -17,14 +17,16 @@ pub record BranchState : Type 0 where
   pub events : List Unmerged
 
 -- the decoder after a step on each pair of xs in order; the events are the new reports
-pub record Ran (most : ℕ) (d : DecoderState) (a : Option (List Bool)) (c : List CostPair) (g : List Bool) (xs : List CostPair) (old new : List Bool) (events : List ℕ) : Type 0 where
+pub record Ran (most : ℕ) (d : DecoderState) (a : Option (List Bool)) (c : List CostPair) (g : List Bool)
+    (xs : List CostPair) (old new : List Bool) (events : List ℕ) : Type 0 where
   pub more : List Bool
   pub appended : new ≡ old ++ more
   pub stands : Stands most d a (c ++ xs) (g ++ more)
   pub reports : (rs : List ℕ) → Reports most a c rs → Reports most a (c ++ xs) (rs ++ events)
 
 -- the decoder after all costs of a symbol and a call that gives all shared bits: exactly the bits given are appended
-pub record RanSymbol (most : ℕ) (d : DecoderState) (a : Option (List Bool)) (c : List CostPair) (g : List Bool) (xs : List CostPair) (old new : List Bool) (events : List ℕ) : Type 0 where
+pub record RanSymbol (most : ℕ) (d : DecoderState) (a : Option (List Bool)) (c : List CostPair) (g : List Bool)
+    (xs : List CostPair) (old new : List Bool) (events : List ℕ) : Type 0 where
   pub more : List Bool
   pub appended : new ≡ old ++ more
   pub stands : Stands most d a (c ++ xs) (g ++ more)

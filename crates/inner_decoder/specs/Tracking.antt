@@ -1,5 +1,6 @@
 -- The state of a decoder after a stream of costs.
-use Rattle.std.specs.Prelude.{◌≡◌, ℕ, ◌+◌, ◌<◌, ◌≤◌, Bool, false, List, [], ◌∷◌, ◌++◌, length, drop, slice_index, IsTrue, ◌↔◌}
+use Rattle.std.specs.Prelude.{◌≡◌, ℕ, ◌+◌, ◌<◌, ◌≤◌, Bool, false, List, [], ◌∷◌, ◌++◌, length, drop, slice_index}
+use Rattle.std.specs.Prelude.{IsTrue, ◌↔◌}
 use Rattle.std.specs.declared.option.Option.{Option}
 use Rattle.std.specs.Option.{option_to_list, IfSome}
 use Rattle.code_paths.specs.declared.costs.CostPair.{CostPair}
@@ -13,7 +14,8 @@ use Rattle.inner_decoder.specs.Metrics.{NeverWrap}
 
 -- The alive states are those that a path of the open part reaches. The metrics are the totals of the least paths, less
 -- one number, and never wrap. The bits of these paths are the bits of the part already given, then the pending ones.
-pub record Tracks (b : Option (List Bool)) (d : List CostPair) (gave : List Bool) (sums : Sums) (waits : ℕ → List Bool) (waiting : ℕ) : Type 0 where
+pub record Tracks (b : Option (List Bool)) (d : List CostPair) (gave : List Bool) (sums : Sums) (waits : ℕ → List Bool)
+    (waiting : ℕ) : Type 0 where
   pub less : ℕ
   pub path : ℕ → List Bool
   pub long : length gave + waiting ≡ length d
@@ -24,7 +26,8 @@ pub record Tracks (b : Option (List Bool)) (d : List CostPair) (gave : List Bool
   pub bounded : NeverWrap b (length d) sums
 
 -- Metrics, pending bits and a number of steps match the costs c from start a, after the bits g were given.
-pub record StandsBy (most : ℕ) (sums : Sums) (waits : ℕ → List Bool) (waiting steps : ℕ) (a : Option (List Bool)) (c : List CostPair) (g : List Bool) : Type 0 where
+pub record StandsBy (most : ℕ) (sums : Sums) (waits : ℕ → List Bool) (waiting steps : ℕ) (a : Option (List Bool))
+    (c : List CostPair) (g : List Bool) : Type 0 where
   pub parts : List Part
   pub start : Option (List Bool)
   pub costs : List CostPair
@@ -42,7 +45,8 @@ Stands most d a c g = StandsBy most d.sums (row_of d.rows) d.waiting d.steps a c
 
 -- The decoder after a step on x. Bits are appended; all bits so far are a prefix of the bits given. r is a report
 -- exactly if the defined reports have one more, and then exactly the bits given are appended.
-pub record Stepped (most : ℕ) (d : DecoderState) (a : Option (List Bool)) (c : List CostPair) (g : List Bool) (x : CostPair) (old new : List Bool) (r : Option ℕ) : Type 0 where
+pub record Stepped (most : ℕ) (d : DecoderState) (a : Option (List Bool)) (c : List CostPair) (g : List Bool)
+    (x : CostPair) (old new : List Bool) (r : Option ℕ) : Type 0 where
   pub more : List Bool
   pub appended : new ≡ old ++ more
   pub stands : Stands most d a (c ++ x ∷ []) (g ++ more)
@@ -51,7 +55,8 @@ pub record Stepped (most : ℕ) (d : DecoderState) (a : Option (List Bool)) (c :
   pub whole : IfSome r (λ _. Given most a (c ++ x ∷ []) (g ++ more))
 
 -- the decoder after a call that appends all shared bits: exactly the bits given
-pub record Gave (most : ℕ) (d : DecoderState) (a : Option (List Bool)) (c : List CostPair) (g : List Bool) (old new : List Bool) : Type 0 where
+pub record Gave (most : ℕ) (d : DecoderState) (a : Option (List Bool)) (c : List CostPair) (g : List Bool)
+    (old new : List Bool) : Type 0 where
   pub more : List Bool
   pub appended : new ≡ old ++ more
   pub stands : Stands most d a c (g ++ more)
@@ -59,14 +64,16 @@ pub record Gave (most : ℕ) (d : DecoderState) (a : Option (List Bool)) (c : Li
 
 -- The decoder d has ended. It matches the start a, the costs c it took, and the bits g it appended: exactly the bits at
 -- the end. No bit is pending. One state is alive: the last six bits of the path.
-pub record StandsEnded (most : ℕ) (d : DecoderState) (a : Option (List Bool)) (c : List CostPair) (g : List Bool) : Type 0 where
+pub record StandsEnded (most : ℕ) (d : DecoderState) (a : Option (List Bool)) (c : List CostPair) (g : List Bool) : Type
+    0 where
   pub bits : Ended most a c g
   pub steps : d.steps ≡ length c
   pub waiting : d.waiting ≡ 0
   pub lives : (n : ℕ) → n < 64 → IsTrue (alive d.sums n) ↔ (register n ≡ drop (length bits.costs) bits.path)
 
 -- the decoder after the last call
-pub record Finished (most : ℕ) (d : DecoderState) (a : Option (List Bool)) (c : List CostPair) (g : List Bool) (old new : List Bool) : Type 0 where
+pub record Finished (most : ℕ) (d : DecoderState) (a : Option (List Bool)) (c : List CostPair) (g : List Bool)
+    (old new : List Bool) : Type 0 where
   pub more : List Bool
   pub appended : new ≡ old ++ more
   pub stands : StandsEnded most d a c (g ++ more)

@@ -1,5 +1,6 @@
 // The decoder of one stream, symbol by symbol.
-ghost use Rattle.std.specs.Prelude.{◌≡◌, ◌+◌, ◌<◌, ◌≤◌, ◌^◌, Bool, List, [], ◌∷◌, ◌++◌, false, true, length, IfOk, IsNone, IfSome, ◌↔◌};
+ghost use Rattle.std.specs.Prelude.{◌≡◌, ◌+◌, ◌<◌, ◌≤◌, ◌^◌, Bool, List, [], ◌∷◌, ◌++◌, false, true, length, IfOk};
+ghost use Rattle.std.specs.Prelude.{IsNone, IfSome, ◌↔◌};
 ghost use Rattle.std.specs.declared.option.Option.{Option};
 ghost use Rattle.std.specs.Option.{option_to_list};
 ghost use Rattle.spec_words.specs.Bits.{spelled};
@@ -47,7 +48,8 @@ fn run<A: Acs, V: Survivors<2048>>(
     ensures waiting { decoder.new.waiting ≤ 2048 }
     ensures room { length to.new ≤ 33807 }
     ensures amount { length to.new + decoder.new.waiting ≡ length to.old + decoder.old.waiting + length pairs.now }
-    ensures ran { (a : Option (List Bool)) (c : List CostPair) (g : List Bool) → Stands 2048 decoder.old a c g → Ran 2048 decoder.new a c g pairs.now to.old to.new (ats events.new.items) }
+    ensures ran { (a : Option (List Bool)) (c : List CostPair) (g : List Bool) → Stands 2048 decoder.old a c g
+        → Ran 2048 decoder.new a c g pairs.now to.old to.new (ats events.new.items) }
 {
     let mut taken = 0;
     while taken < pairs.len() {
@@ -77,7 +79,14 @@ impl<A: Acs, V: Survivors<2048>> Model for Branch<A, V> {
 
     ghost Value = { BranchState };
 
-    ghost view = { λ b. record { decoder = b.decoder; loaded = take b.used b.pairs.items; most = b.most; wait = b.wait; events = b.events.items } };
+    ghost view = { λ b. record {
+      decoder = b.decoder;
+      loaded = take b.used b.pairs.items;
+      most = b.most;
+      wait
+          = b.wait;
+      events = b.events.items;
+    } };
 
     ghost invariant = { λ b. (length b.pairs.items ≡ b.most) × (b.used ≤ b.most) × (b.decoder.waiting ≤ 2048) };
 }
@@ -169,8 +178,10 @@ impl<A: Acs, V: Survivors<2048>> Branch<A, V> {
         ensures most { self.new.most ≡ self.old.most }
         ensures loaded { self.new.loaded ≡ [] }
         ensures steps { self.new.decoder.steps ≡ self.old.decoder.steps + length self.old.loaded }
-        ensures amount { length self.new.wait + self.new.decoder.waiting ≡ length self.old.wait + self.old.decoder.waiting + length self.old.loaded }
-        ensures ran { (a : Option (List Bool)) (c : List CostPair) (g : List Bool) → Stands 2048 self.old.decoder a c g → RanSymbol 2048 self.new.decoder a c g self.old.loaded self.old.wait self.new.wait (ats self.new.events) }
+        ensures amount { length self.new.wait + self.new.decoder.waiting ≡ length self.old.wait
+            + self.old.decoder.waiting + length self.old.loaded }
+        ensures ran { (a : Option (List Bool)) (c : List CostPair) (g : List Bool) → Stands 2048 self.old.decoder a c g
+            → RanSymbol 2048 self.new.decoder a c g self.old.loaded self.old.wait self.new.wait (ats self.new.events) }
     {
         self.events.clear();
         run(
@@ -199,8 +210,10 @@ impl<A: Acs, V: Survivors<2048>> Branch<A, V> {
         ensures most { self.new.most ≡ self.old.most }
         ensures loaded { self.new.loaded ≡ [] }
         ensures steps { self.new.decoder.steps ≡ self.old.decoder.steps + length pairs.now }
-        ensures amount { length self.new.wait + self.new.decoder.waiting ≡ length self.old.wait + self.old.decoder.waiting + length pairs.now }
-        ensures ran { (a : Option (List Bool)) (c : List CostPair) (g : List Bool) → Stands 2048 self.old.decoder a c g → RanSymbol 2048 self.new.decoder a c g pairs.now self.old.wait self.new.wait (ats self.new.events) }
+        ensures amount { length self.new.wait + self.new.decoder.waiting ≡ length self.old.wait
+            + self.old.decoder.waiting + length pairs.now }
+        ensures ran { (a : Option (List Bool)) (c : List CostPair) (g : List Bool) → Stands 2048 self.old.decoder a c g
+            → RanSymbol 2048 self.new.decoder a c g pairs.now self.old.wait self.new.wait (ats self.new.events) }
     {
         self.events.clear();
         run(&mut self.decoder, pairs, &mut self.wait, &mut self.events);
@@ -258,7 +271,8 @@ impl<A: Acs, V: Survivors<2048>> Branch<A, V> {
         ensures steps { self.new.decoder.steps ≡ self.old.decoder.steps }
         ensures rest { self.new ≡ record self.old { decoder = self.new.decoder; wait = self.new.wait } }
         ensures amount { length self.new.wait ≡ length self.old.wait + self.old.decoder.waiting }
-        ensures finished { (a : Option (List Bool)) (c : List CostPair) (g : List Bool) → Stands 2048 self.old.decoder a c g → Finished 2048 self.new.decoder a c g self.old.wait self.new.wait }
+        ensures finished { (a : Option (List Bool)) (c : List CostPair) (g : List Bool)
+            → Stands 2048 self.old.decoder a c g → Finished 2048 self.new.decoder a c g self.old.wait self.new.wait }
     {
         self.decoder.finish(&mut self.wait);
     }

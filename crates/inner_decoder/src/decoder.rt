@@ -51,7 +51,8 @@ fn advance<A: Acs, V: Survivors<L>, const L: usize>(
     requires room { V.count survivors.old.inner.value + length pairs.now ≤ L + 1 }
     ensures tied { V.states survivors.new.inner.value ≡ metric.new.alive }
     ensures count { V.count survivors.new.inner.value ≡ V.count survivors.old.inner.value + length pairs.now }
-    ensures advanced { IsAdvanced metric.old (V.list survivors.old.inner.value) pairs.now metric.new (V.list survivors.new.inner.value) }
+    ensures advanced { IsAdvanced metric.old (V.list survivors.old.inner.value) pairs.now metric.new
+        (V.list survivors.new.inner.value) }
 {
     metric.run::<A>(pairs, words);
     survivors.push_all(words);
@@ -69,9 +70,13 @@ fn settle<V: Survivors<L>, const L: usize>(
     requires room { length to.old + L < 36864 }
     ensures tied { V.states survivors.new.inner.value ≡ metric.new.alive }
     ensures few { V.count survivors.new.inner.value ≤ L }
-    ensures amount { length to.new + V.count survivors.new.inner.value ≡ length to.old + V.count survivors.old.inner.value }
-    ensures spaced { V.count survivors.new.inner.value + (L + 1) * length (option_to_list result) ≤ V.count survivors.old.inner.value }
-    ensures settles { Settles L metric.old (V.list survivors.old.inner.value) (V.count survivors.old.inner.value) metric.new (V.list survivors.new.inner.value) (V.count survivors.new.inner.value) steps to.old to.new (at_of result) }
+    ensures amount { length to.new + V.count survivors.new.inner.value ≡ length to.old
+        + V.count survivors.old.inner.value }
+    ensures spaced { V.count survivors.new.inner.value + (L + 1) * length (option_to_list result) ≤ V.count
+        survivors.old.inner.value }
+    ensures settles { Settles L metric.old (V.list survivors.old.inner.value) (V.count survivors.old.inner.value)
+        metric.new (V.list survivors.new.inner.value) (V.count survivors.new.inner.value) steps to.old to.new
+        (at_of result) }
 {
     if (survivors.waiting() as usize) <= L {
         return None;
@@ -107,9 +112,17 @@ impl<A: Acs, V: Survivors<L>, const L: usize> Model for Decoder<A, V, L> {
 
     ghost Value = { DecoderState };
 
-    ghost view = { λ d. record { sums = d.metric; rows = rows_below (V.list d.survivors.inner.value) 64; waiting = V.count d.survivors.inner.value; steps = d.steps; ended = d.ended } };
+    ghost view = { λ d. record {
+      sums = d.metric;
+      rows = rows_below (V.list d.survivors.inner.value) 64;
+      waiting
+          = V.count d.survivors.inner.value;
+      steps = d.steps;
+      ended = d.ended;
+    } };
 
-    ghost invariant = { λ d. IsTied (V.states d.survivors.inner.value) d.metric.alive (V.count d.survivors.inner.value) L };
+    ghost invariant = { λ d. IsTied (V.states d.survivors.inner.value) d.metric.alive (V.count d.survivors.inner.value)
+        L };
 }
 
 impl<A: Acs, V: Survivors<L>, const L: usize> Decoder<A, V, L> {
@@ -152,7 +165,8 @@ impl<A: Acs, V: Survivors<L>, const L: usize> Decoder<A, V, L> {
         ensures few { self.new.waiting ≤ L }
         ensures amount { length to.new + self.new.waiting ≡ length to.old + self.old.waiting + 1 }
         ensures spaced { self.new.waiting + (L + 1) * length (option_to_list result) ≤ self.old.waiting + 1 }
-        ensures stepped { (a : Option (List Bool)) (c : List CostPair) (g : List Bool) → Stands L self.old a c g → Stepped L self.new a c g pair to.old to.new (at_of result) }
+        ensures stepped { (a : Option (List Bool)) (c : List CostPair) (g : List Bool) → Stands L self.old a c g
+            → Stepped L self.new a c g pair to.old to.new (at_of result) }
     {
         let decisions = self.metric.step::<A>(pair);
         self.survivors.push(decisions, self.metric.alive());
@@ -177,7 +191,8 @@ impl<A: Acs, V: Survivors<L>, const L: usize> Decoder<A, V, L> {
         ensures few { self.new.waiting ≤ L }
         ensures amount { length to.new + self.new.waiting ≡ length to.old + self.old.waiting + result.0 }
         ensures spaced { self.new.waiting + (L + 1) * length (option_to_list result.1) ≤ self.old.waiting + result.0 }
-        ensures ran { (a : Option (List Bool)) (c : List CostPair) (g : List Bool) → Stands L self.old a c g → Ran L self.new a c g (take result.0 pairs.now) to.old to.new (option_to_list (at_of result.1)) }
+        ensures ran { (a : Option (List Bool)) (c : List CostPair) (g : List Bool) → Stands L self.old a c g
+            → Ran L self.new a c g (take result.0 pairs.now) to.old to.new (option_to_list (at_of result.1)) }
     {
         if self.metric.alive() != u64::MAX {
             return (1, self.step(pairs[0], to));
@@ -206,7 +221,8 @@ impl<A: Acs, V: Survivors<L>, const L: usize> Decoder<A, V, L> {
         ensures steps { self.new.steps ≡ self.old.steps }
         ensures few { self.new.waiting ≤ L }
         ensures amount { length to.new + self.new.waiting ≡ length to.old + self.old.waiting }
-        ensures gave { (a : Option (List Bool)) (c : List CostPair) (g : List Bool) → Stands L self.old a c g → Gave L self.new a c g to.old to.new }
+        ensures gave { (a : Option (List Bool)) (c : List CostPair) (g : List Bool) → Stands L self.old a c g
+            → Gave L self.new a c g to.old to.new }
     {
         let common = self.survivors.shared();
         self.survivors.give(common, to);
@@ -223,7 +239,8 @@ impl<A: Acs, V: Survivors<L>, const L: usize> Decoder<A, V, L> {
         ensures steps { self.new.steps ≡ self.old.steps }
         ensures waiting { self.new.waiting ≡ 0 }
         ensures amount { length to.new ≡ length to.old + self.old.waiting }
-        ensures finished { (a : Option (List Bool)) (c : List CostPair) (g : List Bool) → Stands L self.old a c g → Finished L self.new a c g to.old to.new }
+        ensures finished { (a : Option (List Bool)) (c : List CostPair) (g : List Bool) → Stands L self.old a c g
+            → Finished L self.new a c g to.old to.new }
     {
         let last = self.metric.best();
         self.survivors.force(last, to);

@@ -16,14 +16,16 @@ DecoderStands at_end d a c bits = (d.ended ≡ true) × StandsEnded memory d a c
 
 -- The decoder of a stream matches a start, the costs received, the bits given, which are those of the definitions, and
 -- its reports. Each step's bit was given or is pending in the decoder.
-pub record HasGiven (moment : Moment) (d : DecoderState) (a : Option (List Bool)) (c : List CostPair) (bits : List Bool) (steps : List ℕ) : Type 0 where
+pub record HasGiven (moment : Moment) (d : DecoderState) (a : Option (List Bool)) (c : List CostPair) (bits : List Bool)
+    (steps : List ℕ) : Type 0 where
   pub decoder : DecoderStands moment d a c bits
   pub decoded : IsDecoded moment a c bits
   pub reports : Reports memory a c steps
   pub amount : length bits + d.waiting ≡ length c
 
 -- it gave more bits, which follow the pending ones
-pub record GaveMore (moment : Moment) (old new : BranchState) (a : Option (List Bool)) (c : List CostPair) (bits : List Bool) (steps : List ℕ) : Type 0 where
+pub record GaveMore (moment : Moment) (old new : BranchState) (a : Option (List Bool)) (c : List CostPair)
+    (bits : List Bool) (steps : List ℕ) : Type 0 where
   pub more : List Bool
   pub appended : new.wait ≡ old.wait ++ more
   pub given : HasGiven moment new.decoder a c (bits ++ more) steps
@@ -34,7 +36,9 @@ pub record HasTaken (pairs : List CostPair) (old new : BranchState) : Type 0 whe
   pub loaded : new.loaded ≡ []
   pub most : new.most ≡ old.most
   pub steps : new.decoder.steps ≡ old.decoder.steps + length pairs
-  pub gave : (a : Option (List Bool)) (c : List CostPair) (bits : List Bool) (steps : List ℕ) → HasGiven so_far old.decoder a c bits steps → GaveMore so_far old new a (c ++ pairs) bits (steps ++ ats new.events)
+  pub gave : (a : Option (List Bool)) (c : List CostPair) (bits : List Bool) (steps : List ℕ)
+      → HasGiven so_far old.decoder a c bits steps → GaveMore so_far old new a (c ++ pairs) bits (steps ++ ats
+      new.events)
 
 -- it gave the remaining bits of its least path, and has ended
 pub record HasEnded (old new : BranchState) : Type 0 where
@@ -42,4 +46,5 @@ pub record HasEnded (old new : BranchState) : Type 0 where
   pub loaded : new.loaded ≡ []
   pub steps : new.decoder.steps ≡ old.decoder.steps
   pub most : new.most ≡ old.most
-  pub gave : (a : Option (List Bool)) (c : List CostPair) (bits : List Bool) (steps : List ℕ) → HasGiven so_far old.decoder a c bits steps → GaveMore at_end old new a c bits steps
+  pub gave : (a : Option (List Bool)) (c : List CostPair) (bits : List Bool) (steps : List ℕ)
+      → HasGiven so_far old.decoder a c bits steps → GaveMore at_end old new a c bits steps

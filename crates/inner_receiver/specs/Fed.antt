@@ -21,7 +21,8 @@ pub record Ends (x : CostsState) (bytes p : List ℕ) : Type 0 where
   pub cells_are : x.cells ≡ symbol_cells x.settings (bytes ++ p) (symbols x.settings bytes)
   pub weights_are : x.weights ≡ symbol_weights x.settings (bytes ++ p) (symbols x.settings bytes)
   pub costs_are : (σ : Stream) → costs x.settings (bytes ++ p) σ ≡ costs x.settings bytes σ ++ pairs_of x σ
-  pub tps_are : tps_cells x.settings (bytes ++ p) (symbols x.settings bytes) ≡ map (cell_of x.cells) (tps_carriers x.settings.mode)
+  pub tps_are : tps_cells x.settings (bytes ++ p) (symbols x.settings bytes)
+      ≡ map (cell_of x.cells) (tps_carriers x.settings.mode)
 
 -- n bytes of a piece were taken, whether they completed a symbol or not
 pub record Fed (x : CostsState) (bytes piece : List ℕ) (n : ℕ) : Type 0 where

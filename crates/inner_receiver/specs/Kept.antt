@@ -8,7 +8,8 @@ use Rattle.inner_receiver.specs.Rooms.{most_pairs}
 
 -- The mode of the settings is that of the type. An unfinished symbol lacks at least a byte, a whole one none. The pairs
 -- of each stream fit, for a symbol of any parameters.
-pub record AreKept (mode : Mode) (carriers : ℕ) (settings inner : Settings) (symbol : List ℕ) (whole : Bool) (hp lp : List CostPair) (hp_used lp_used : ℕ) : Type 0 where
+pub record AreKept (mode : Mode) (carriers : ℕ) (settings inner : Settings) (symbol : List ℕ) (whole : Bool)
+    (hp lp : List CostPair) (hp_used lp_used : ℕ) : Type 0 where
   pub mode_is : settings.mode ≡ mode
   pub inner_is : inner ≡ settings
   pub unfinished : whole ≡ false → length symbol < 5 * carriers

@@ -107,7 +107,8 @@ pub fn take_symbol<R: Threads + Sync, G: Gate>(
     ensures lp { HasTaken lp_pairs.now lp.old lp.new }
     ensures hp_few { length hp.new.events ≤ 16 }
     ensures lp_few { length lp.new.events ≤ 16 }
-    ensures events { events.new.items ≡ events.old.items ++ map (event_at Hp) (ats hp.new.events) ++ map (event_at Lp) (ats lp.new.events) }
+    ensures events { events.new.items ≡ events.old.items ++ map (event_at Hp) (ats hp.new.events)
+        ++ map (event_at Lp) (ats lp.new.events) }
     ensures capacity { vec_capacity events.new ≡ vec_capacity events.old }
 {
     run(rt, gate, hp_pairs, lp_pairs, hp, lp);

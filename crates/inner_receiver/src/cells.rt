@@ -1,5 +1,6 @@
 // From bytes in pieces of any length to the cost pairs of symbols.
-ghost use Rattle.std.specs.Prelude.{◌≡◌, ◌+◌, ◌-◌, ◌*◌, ◌<◌, ◌≤◌, ◌^◌, [], ℕ, List, true, false, cond, min, length, IfOk, if◌then◌else◌, None, Some};
+ghost use Rattle.std.specs.Prelude.{◌≡◌, ◌+◌, ◌-◌, ◌*◌, ◌<◌, ◌≤◌, ◌^◌, [], ℕ, List, true, false, cond, min, length};
+ghost use Rattle.std.specs.Prelude.{IfOk, if◌then◌else◌, None, Some};
 ghost use Rattle.mode_set.specs.StreamTable.{carriers};
 ghost use Rattle.mode_set.specs.declared.modes.Stream.TheVariants.{Lp};
 ghost use Rattle.symbol_parameters.specs.Spans.{exists_in};
@@ -56,7 +57,8 @@ impl<M: Carriers> Model for SymbolCosts<M> {
       lp = take x.lp_used x.lp.items;
     } };
 
-    ghost invariant = { λ x. AreKept M.MODE M.K x.settings x.inner x.input x.whole x.hp.items x.lp.items x.hp_used x.lp_used };
+    ghost invariant = { λ x. AreKept M.MODE M.K x.settings x.inner x.input x.whole x.hp.items x.lp.items x.hp_used
+        x.lp_used };
 }
 
 /// Resets after a completed symbol.

@@ -80,7 +80,8 @@ impl FrameReader {
         ensures symbol { self.new.symbol ≡ self.old.symbol }
         ensures read { self.new.read ≡ self.old.read }
         ensures bad { self.new.bad ≡ self.old.bad }
-        ensures voted { (shown : ℕ → List AnyCell) (n : ℕ) → shown n ≡ map (cell_of cells.now) (tps_carriers mode) → FrameStands mode self.old shown n → IsVoted mode self.new shown n }
+        ensures voted { (shown : ℕ → List AnyCell) (n : ℕ) → shown n ≡ map (cell_of cells.now) (tps_carriers mode)
+            → FrameStands mode self.old shown n → IsVoted mode self.new shown n }
     {
         let mut now = [Cell { re: 0, im: 0 }; MOST];
         let count = take_tps_cells(mode, cells, &mut now);
@@ -95,7 +96,8 @@ impl FrameReader {
         requires few { self.old.read + self.old.bad < 2 ^ 62 }
         ensures symbol { self.new.symbol < 68 }
         ensures few { self.new.read + self.new.bad ≤ self.old.read + self.old.bad + 1 }
-        ensures stands { (mode : AnyMode) (shown : ℕ → List AnyCell) (n : ℕ) → IsVoted mode self.old shown n → FrameStands mode self.new shown (n + 1) }
+        ensures stands { (mode : AnyMode) (shown : ℕ → List AnyCell) (n : ℕ) → IsVoted mode self.old shown n
+            → FrameStands mode self.new shown (n + 1) }
     {
         if self.symbol < 67 {
             self.symbol += 1;
@@ -117,7 +119,8 @@ impl FrameReader {
         requires few { self.old.read + self.old.bad < 2 ^ 62 }
         ensures symbol { self.new.symbol < 68 }
         ensures few { self.new.read + self.new.bad ≤ self.old.read + self.old.bad + 1 }
-        ensures taken { (shown : ℕ → List AnyCell) (n : ℕ) → shown n ≡ map (cell_of cells.now) (tps_carriers mode) → FrameStands mode self.old shown n → FrameStands mode self.new shown (n + 1) }
+        ensures taken { (shown : ℕ → List AnyCell) (n : ℕ) → shown n ≡ map (cell_of cells.now) (tps_carriers mode)
+            → FrameStands mode self.old shown n → FrameStands mode self.new shown (n + 1) }
     {
         self.note(mode, cells);
         self.advance();

@@ -64,8 +64,10 @@ pub(crate) fn put_pairs<M: Carriers>(
     requires weights { AreWeights settings.now.mode weights.now }
     requires hp_room { most_pairs settings.now Hp ≤ length hp.old.items }
     requires lp_room { most_pairs settings.now Lp ≤ length lp.old.items }
-    ensures hp { take result.0 hp.new.items ≡ map (pair_of (settings_at settings.now symbol) cells.now weights.now (symbol % 68) Hp) (numbers (need (settings_at settings.now symbol) Hp)) }
-    ensures lp { take result.1 lp.new.items ≡ map (pair_of (settings_at settings.now symbol) cells.now weights.now (symbol % 68) Lp) (numbers (need (settings_at settings.now symbol) Lp)) }
+    ensures hp { take result.0 hp.new.items ≡ map (pair_of (settings_at settings.now symbol) cells.now weights.now
+        (symbol % 68) Hp) (numbers (need (settings_at settings.now symbol) Hp)) }
+    ensures lp { take result.1 lp.new.items ≡ map (pair_of (settings_at settings.now symbol) cells.now weights.now
+        (symbol % 68) Lp) (numbers (need (settings_at settings.now symbol) Lp)) }
     ensures hp_few { result.0 ≤ most_pairs settings.now Hp }
     ensures lp_few { result.1 ≤ most_pairs settings.now Lp }
     ensures hp_long { length hp.new.items ≡ length hp.old.items }

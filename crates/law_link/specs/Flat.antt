@@ -1,5 +1,6 @@
 -- A symbol received through a flat channel (one gain for all carriers), and how well correction restores it.
-use Rattle.std.specs.Prelude.{◌≡◌, ℕ, ◌+◌, ◌^◌, ◌<◌, ◌≤◌, IsTrue, List, slice_index, get_or, ℤ, pos, ◌+ℤ◌, ◌-ℤ◌, ◌*ℤ◌, nat_abs}
+use Rattle.std.specs.Prelude.{◌≡◌, ℕ, ◌+◌, ◌^◌, ◌<◌, ◌≤◌, IsTrue, List, slice_index, get_or, ℤ, pos, ◌+ℤ◌, ◌-ℤ◌, ◌*ℤ◌}
+use Rattle.std.specs.Prelude.{nat_abs}
 use Rattle.std.specs.Int.{w16}
 use Rattle.std.specs.Int.RustNames.{FitsSigned}
 use Rattle.mode_set.specs.StreamTable.{carriers}
@@ -19,7 +20,8 @@ pub record IsCell (c : Cell) : Type 0 where
 -- a transmitted symbol: valid cells, and pilots with their signs (EN 300 744, 4.5.5)
 pub record IsSent (m : Mode) (l : ℕ) (sent : ℕ → Cell) : Type 0 where
   pub cells : (k : ℕ) → k < carriers m → IsCell (sent k)
-  pub pilots : (k : ℕ) → k < carriers m → IsTrue (is_pilot m l k) → sent k ≡ record { re = unturned (reference k) (pos 21845); im = pos 0 }
+  pub pilots : (k : ℕ) → k < carriers m → IsTrue (is_pilot m l k) → sent k
+      ≡ record { re = unturned (reference k) (pos 21845); im = pos 0 }
 
 -- a gain of (a + b i) / 16384, at least half the nominal amplitude ..
 abbrev pub IsStrong : ℤ → ℤ → Type 0
@@ -48,12 +50,15 @@ pub record HasCome (m : Mode) (a b : ℤ) (sent : ℕ → Cell) (received : List
 
 -- after correction each of its carriers is that close
 abbrev pub ComesBack : ℕ → Mode → ℕ → (ℕ → Cell) → List Cell → List ℕ → Type 0
-ComesBack most m l sent received weights = (k : ℕ) → k < carriers m → IsRestored most (sent k) (equalised m l received weights k)
+ComesBack most m l sent received weights = (k : ℕ) → k < carriers m
+    → IsRestored most (sent k) (equalised m l received weights k)
 
 -- a symbol is restored from a flat channel ..
 abbrev pub FlatGainIsRemoved : Type 0
-FlatGainIsRemoved = (m : Mode) (l : ℕ) (a b : ℤ) (sent : ℕ → Cell) (received : List Cell) (weights : List ℕ) → IsFlat a b → IsSent m l sent → HasCome m a b sent received weights → ComesBack 64 m l sent received weights
+FlatGainIsRemoved = (m : Mode) (l : ℕ) (a b : ℤ) (sent : ℕ → Cell) (received : List Cell) (weights : List ℕ)
+    → IsFlat a b → IsSent m l sent → HasCome m a b sent received weights → ComesBack 64 m l sent received weights
 
 -- .. and even closer for any gain, however strong
 abbrev pub StrongGainIsRemoved : Type 0
-StrongGainIsRemoved = (m : Mode) (l : ℕ) (a b : ℤ) (sent : ℕ → Cell) (received : List Cell) (weights : List ℕ) → IsStrong a b → IsSent m l sent → HasCome m a b sent received weights → ComesBack 17 m l sent received weights
+StrongGainIsRemoved = (m : Mode) (l : ℕ) (a b : ℤ) (sent : ℕ → Cell) (received : List Cell) (weights : List ℕ)
+    → IsStrong a b → IsSent m l sent → HasCome m a b sent received weights → ComesBack 17 m l sent received weights

@@ -22,7 +22,11 @@ old_tail mode bytes = length bytes % old_symbol_length mode
 
 -- old cell k, counted from the first cell of the file
 unfoldable pub old_cell_from : List ℕ → ℕ → Cell
-old_cell_from bytes k = record { re = cast_signed w16 (big_number 2 (drop (4 * k) bytes)); im = cast_signed w16 (big_number 2 (drop (4 * k + 2) bytes)) }
+old_cell_from bytes k = record {
+  re = cast_signed w16 (big_number 2 (drop (4 * k) bytes));
+  im = cast_signed w16
+      (big_number 2 (drop (4 * k + 2) bytes));
+}
 
 -- the old cells of symbol m
 unfoldable pub old_symbol_cells : Mode → List ℕ → ℕ → List Cell

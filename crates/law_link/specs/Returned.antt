@@ -28,7 +28,8 @@ HavePackets s inputs = (σ : Stream) → IsTrue (exists_in s σ) → ArePackets 
 
 -- the existing streams are received, if the transmission has a number of super-frames
 abbrev pub IsReturned : Settings → Inputs → (Stream → List ℕ) → Type 0
-IsReturned s inputs packets = (n : ℕ) (σ : Stream) → super_frames s (counts_of inputs) ≡ Some n → IsTrue (exists_in s σ) → packets σ ≡ returned s inputs σ n
+IsReturned s inputs packets = (n : ℕ) (σ : Stream) → super_frames s (counts_of inputs) ≡ Some n → IsTrue (exists_in s σ)
+    → packets σ ≡ returned s inputs σ n
 
 -- all their words are clean
 abbrev pub AreClean : Settings → Inputs → (Stream → Tally) → Type 0
@@ -41,6 +42,7 @@ AreClean s inputs tally = (n : ℕ) (σ : Stream) → super_frames s (counts_of 
 pub record IsWithin (s : Settings) (inputs : Inputs) (bytes : List ℕ) : Type 0 where
   pub all : symbols s bytes ≡ symbols_of s inputs
   pub near : (m k : ℕ) → m < symbols_of s inputs → k < carriers s.mode → IsTrue (is_payload s.mode (m % 68) k)
-      → IsNear (settings_at s m).shape (settings_at s m).hierarchy (tx_cell s inputs m k) (cell_of (symbol_cells s bytes m) k)
+      → IsNear (settings_at s m).shape (settings_at s m).hierarchy (tx_cell s inputs m k)
+      (cell_of (symbol_cells s bytes m) k)
   pub weight : (m k : ℕ) → m < symbols_of s inputs → k < carriers s.mode → IsTrue (is_payload s.mode (m % 68) k)
       → 1 ≤ weight_of (symbol_weights s bytes m) k

@@ -12,12 +12,15 @@ use Rattle.law_link.specs.Flat.{IsFlat, HasCome, ComesBack}
 
 -- symbol n of a transmission is restored from a flat channel, for any labels
 abbrev pub SymbolsComeBack : Type 0
-SymbolsComeBack = (s : Settings) (n : ℕ) (labels : ℕ → ℕ → Bool) (a b : ℤ) (received : List Cell) (weights : List ℕ) → IsFlat a b
-    → HasCome s.mode a b (cell_at s n labels) received weights → ComesBack 64 s.mode (n % 68) (cell_at s n labels) received weights
+SymbolsComeBack = (s : Settings) (n : ℕ) (labels : ℕ → ℕ → Bool) (a b : ℤ) (received : List Cell) (weights : List ℕ)
+    → IsFlat a b
+    → HasCome s.mode a b (cell_at s n labels) received weights
+    → ComesBack 64 s.mode (n % 68) (cell_at s n labels) received weights
 
 -- so is each symbol of a whole transmission
 abbrev pub TransmissionsComeBack : Type 0
-TransmissionsComeBack = (s : Settings) (inputs : Inputs) (a b : ℤ) (received : ℕ → List Cell) (weights : ℕ → List ℕ) → IsFlat a b
+TransmissionsComeBack = (s : Settings) (inputs : Inputs) (a b : ℤ) (received : ℕ → List Cell) (weights : ℕ → List ℕ)
+    → IsFlat a b
     → ((m : ℕ) → m < symbols_of s inputs → HasCome s.mode a b (tx_cell s inputs m) (received m) (weights m))
     → (m : ℕ) → m < symbols_of s inputs → ComesBack 64 s.mode (m % 68) (tx_cell s inputs m) (received m) (weights m)
 

@@ -19,13 +19,15 @@ UpgradedAreWhole = (s : Settings) (bytes : List ℕ) → AreWhole s bytes
 
 -- both parts of each cell stay
 abbrev pub UpgradedCellsAreOld : Type 0
-UpgradedCellsAreOld = (s : Settings) (bytes : List ℕ) (m : ℕ) → m < old_symbols s.mode bytes → symbol_cells s (upgraded s.mode bytes) m ≡ old_symbol_cells s.mode bytes m
+UpgradedCellsAreOld = (s : Settings) (bytes : List ℕ) (m : ℕ) → m < old_symbols s.mode bytes
+    → symbol_cells s (upgraded s.mode bytes) m ≡ old_symbol_cells s.mode bytes m
 
 -- upgraded cells, one cost pair for each step of the old symbols, have the costs of the old cells without weights
 pub record ArePlain (s : Settings) (bytes : List ℕ) (σ : Stream) : Type 0 where
   pub long : length (costs s (upgraded s.mode bytes) σ) ≡ steps_before s σ (old_symbols s.mode bytes)
   pub pairs : (m t : ℕ) (d : CostPair) → m < old_symbols s.mode bytes → IsStepOf s σ m t
-      → IsPlainPairOf (settings_at s m) (old_symbol_cells s.mode bytes m) (m % 68) σ (t - steps_before s σ m) (slice_index_or (costs s (upgraded s.mode bytes) σ) t d)
+      → IsPlainPairOf (settings_at s m) (old_symbol_cells s.mode bytes m) (m % 68) σ (t - steps_before s σ m)
+      (slice_index_or (costs s (upgraded s.mode bytes) σ) t d)
 
 abbrev pub UpgradedCostsArePlain : Type 0
 UpgradedCostsArePlain = (s : Settings) (bytes : List ℕ) (σ : Stream) → ArePlain s bytes σ

@@ -3,9 +3,9 @@ ghost use Rattle.law_link.specs.FlatFiles.{FilesAreRestored, FilesAreWithin, Fil
 ghost use Rattle.law_link.specs.Flat.{FlatGainIsRemoved, StrongGainIsRemoved};
 ghost use Rattle.law_link.specs.Symbols.{SymbolsComeBack, TransmissionsComeBack, IsTolerated};
 
+use crate::laws::noise;
 use cell_equal::laws::corrected_are_cells;
 use frame_build::cells_are_read_back;
-use crate::laws::noise;
 use pilots::pilots_are_around;
 use symbol_parameters::laws::settings;
 

@@ -1,7 +1,8 @@
 // The laws of a link, as contracts of functions with empty bodies.
 ghost use Rattle.std.specs.Prelude.{ℕ};
 ghost use Rattle.law_link.specs.Counted.{AreCounted};
-ghost use Rattle.law_link.specs.Laws.{NoiseLaw, NoiseIsClean, CellsAreRead, OwnAreWithin, CleanLaw, OwnAreClean, PacketsThenNulls};
+ghost use Rattle.law_link.specs.Laws.{NoiseLaw, NoiseIsClean, CellsAreRead, OwnAreWithin, CleanLaw, OwnAreClean};
+ghost use Rattle.law_link.specs.Laws.{PacketsThenNulls};
 
 use bit_interleave::laws::each_bit_is_found;
 use code_paths::keeps_sent;

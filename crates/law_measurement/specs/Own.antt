@@ -24,7 +24,8 @@ use Rattle.law_measurement.specs.Totals.{sums_of}
 
 -- within the tolerance of the point of a label, the hard decisions are the bits of the label
 abbrev pub NearPointsAreDecided : Type 0
-NearPointsAreDecided = (s : Shape) (h : Hierarchy) (y : ℕ → Bool) (cell : Cell) (e : ℕ) → e < label_bits s → IsNear s h (map_cell s h y) cell → hard_bit s h cell e ≡ y e
+NearPointsAreDecided = (s : Shape) (h : Hierarchy) (y : ℕ → Bool) (cell : Cell) (e : ℕ) → e < label_bits s
+    → IsNear s h (map_cell s h y) cell → hard_bit s h cell e ≡ y e
 
 -- LP pauses after super-frame j: it exists there but not in the next one
 abbrev pub pauses_after : Settings → ℕ → Bool
@@ -39,7 +40,8 @@ pub record AreCompared (s : Settings) (n j : ℕ) (f : SuperFrame) : Type 0 wher
 
 -- this holds from start zero for any bytes of n whole super-frames
 abbrev pub SymbolsAreCompared : Type 0
-SymbolsAreCompared = (s : Settings) (bytes : List ℕ) (n j : ℕ) (f : SuperFrame) → s.start ≡ Zero → symbols s bytes ≡ 272 * n → j < n → AreSums s bytes j f → AreCompared s n j f
+SymbolsAreCompared = (s : Settings) (bytes : List ℕ) (n j : ℕ) (f : SuperFrame) → s.start ≡ Zero → symbols s bytes
+    ≡ 272 * n → j < n → AreSums s bytes j f → AreCompared s n j f
 
 -- no bit and no word of a stream is wrong, and each word has a phase
 pub record IsClean (t : StreamSums) : Type 0 where
@@ -66,7 +68,9 @@ pub record IsMeasuredNear (s : Settings) (n j : ℕ) (f : SuperFrame) : Type 0 w
   pub error : f.error ≤ 2 * tolerance_in s j ^ 2 * f.cells
 
 abbrev pub NoiseIsMeasured : Type 0
-NoiseIsMeasured = (s : Settings) (inputs : Inputs) (bytes : List ℕ) (n j : ℕ) (f : SuperFrame) → s.start ≡ Zero → HavePackets s inputs → super_frames s (counts_of inputs) ≡ Some n → IsWithin s inputs bytes → j < n → AreSums s bytes j f → IsMeasuredNear s n j f
+NoiseIsMeasured = (s : Settings) (inputs : Inputs) (bytes : List ℕ) (n j : ℕ) (f : SuperFrame) → s.start ≡ Zero
+    → HavePackets s inputs → super_frames s (counts_of inputs) ≡ Some n → IsWithin s inputs bytes → j < n
+    → AreSums s bytes j f → IsMeasuredNear s n j f
 
 -- a transmission's own cells measure as free of errors, with a modulation error of 0
 pub record IsMeasuredExact (s : Settings) (n j : ℕ) (f : SuperFrame) : Type 0 where
@@ -74,14 +78,17 @@ pub record IsMeasuredExact (s : Settings) (n j : ℕ) (f : SuperFrame) : Type 0 
   pub error : f.error ≡ 0
 
 abbrev pub OwnIsMeasured : Type 0
-OwnIsMeasured = (s : Settings) (inputs : Inputs) (n j : ℕ) (f : SuperFrame) → s.start ≡ Zero → HavePackets s inputs → super_frames s (counts_of inputs) ≡ Some n → j < n → AreSums s (tx s inputs) j f → IsMeasuredExact s n j f
+OwnIsMeasured = (s : Settings) (inputs : Inputs) (n j : ℕ) (f : SuperFrame) → s.start ≡ Zero → HavePackets s inputs
+    → super_frames s (counts_of inputs) ≡ Some n → j < n → AreSums s (tx s inputs) j f → IsMeasuredExact s n j f
 
 -- The same in the lines of a measurement: they have as many super-frames as the transmission, and each measures so.
 abbrev pub FramesAreNear : Type 0
-FramesAreNear = (s : Settings) (inputs : Inputs) (bytes out : List ℕ) (n : ℕ) (m : MeasureFinal s bytes out) → s.start ≡ Zero → HavePackets s inputs → super_frames s (counts_of inputs) ≡ Some n → IsWithin s inputs bytes
+FramesAreNear = (s : Settings) (inputs : Inputs) (bytes out : List ℕ) (n : ℕ) (m : MeasureFinal s bytes out) → s.start
+    ≡ Zero → HavePackets s inputs → super_frames s (counts_of inputs) ≡ Some n → IsWithin s inputs bytes
     → (begun_by (symbols s bytes) ≡ n) × ((j : ℕ) → j < n → IsMeasuredNear s n j (m.frames j))
 
 -- For a transmission's own cells each measures as free of errors, with a modulation error of 0.
 abbrev pub FramesAreExact : Type 0
-FramesAreExact = (s : Settings) (inputs : Inputs) (out : List ℕ) (n : ℕ) (m : MeasureFinal s (tx s inputs) out) → s.start ≡ Zero → HavePackets s inputs → super_frames s (counts_of inputs) ≡ Some n
+FramesAreExact = (s : Settings) (inputs : Inputs) (out : List ℕ) (n : ℕ) (m : MeasureFinal s (tx s inputs) out)
+    → s.start ≡ Zero → HavePackets s inputs → super_frames s (counts_of inputs) ≡ Some n
     → (begun_by (symbols s (tx s inputs)) ≡ n) × ((j : ℕ) → j < n → IsMeasuredExact s n j (m.frames j))

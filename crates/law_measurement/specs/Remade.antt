@@ -27,7 +27,8 @@ AreSentIn s inputs m known = (σ : Stream) → IsTrue (is_present s m σ) → Ar
 
 -- then the remade cells of a compared symbol are the cells sent, for either start
 abbrev pub RemadeAreSent : Type 0
-RemadeAreSent = (s : Settings) (inputs : Inputs) (bytes : List ℕ) (m : ℕ) (known : Stream → List Bool) (q : ℕ) → IsTrue (is_compared s m known) → AreSentIn s inputs m known → q < payload s.mode
+RemadeAreSent = (s : Settings) (inputs : Inputs) (bytes : List ℕ) (m : ℕ) (known : Stream → List Bool) (q : ℕ)
+    → IsTrue (is_compared s m known) → AreSentIn s inputs m known → q < payload s.mode
     → remade (comparison s bytes known m) q ≡ tx_cell s inputs m (carrier_at (comparison s bytes known m) q)
 
 -- the squared distances of the received cells of symbol m from the cells sent, over the carriers that count
@@ -36,12 +37,15 @@ sent_error s inputs m x = over_counted x (λ q. squared_distance (received x q) 
 
 -- their sum over the compared symbols of super-frame j
 abbrev pub sent_error_in : Settings → Inputs → List ℕ → Knowns → ℕ → ℕ
-sent_error_in s inputs bytes known j = sum_by (λ m. if is_compared s m (known m) then sent_error s inputs m (comparison s bytes (known m) m) else 0) (symbols_of j)
+sent_error_in s inputs bytes known j = sum_by (λ m. if is_compared s m (known m) then sent_error s inputs m
+    (comparison s bytes (known m) m) else 0) (symbols_of j)
 
 -- the known bits of all compared symbols of super-frame j are the bits sent
 abbrev pub AreAllSent : Settings → Inputs → Knowns → ℕ → Type 0
-AreAllSent s inputs known j = (m : ℕ) → 272 * j ≤ m → m < 272 * (j + 1) → IsTrue (is_compared s m (known m)) → AreSentIn s inputs m (known m)
+AreAllSent s inputs known j = (m : ℕ) → 272 * j ≤ m → m < 272 * (j + 1) → IsTrue (is_compared s m (known m))
+    → AreSentIn s inputs m (known m)
 
 -- then the error of the super-frame is the error against the cells sent, whatever was received
 abbrev pub ErrorIsFromSent : Type 0
-ErrorIsFromSent = (s : Settings) (inputs : Inputs) (bytes : List ℕ) (j : ℕ) (f : SuperFrame) (a : AreSums s bytes j f) → AreAllSent s inputs a.known j → f.error ≡ sent_error_in s inputs bytes a.known j
+ErrorIsFromSent = (s : Settings) (inputs : Inputs) (bytes : List ℕ) (j : ℕ) (f : SuperFrame) (a : AreSums s bytes j f)
+    → AreAllSent s inputs a.known j → f.error ≡ sent_error_in s inputs bytes a.known j

@@ -18,7 +18,18 @@ abbrev pub over_frames : Settings → List ℕ → (ℕ → SuperFrame) → (Sup
 over_frames s bytes frames f = sum_by (λ j. f (frames j)) (numbers (begun_by (symbols s bytes)))
 
 abbrev pub nothing : StreamSums
-nothing = record { bits = 0; wrong = 0; words = 0; clean = 0; corrected = 0; bad = 0; unphased = 0; unmerged = 0; repaired = 0 }
+nothing = record {
+  bits = 0;
+  wrong = 0;
+  words = 0;
+  clean = 0;
+  corrected = 0;
+  bad = 0;
+  unphased = 0;
+  unmerged
+      = 0;
+  repaired = 0;
+}
 
 -- the sums of a stream in a super-frame: all 0 if its line is absent
 abbrev pub sums_of : Stream → SuperFrame → StreamSums
@@ -26,7 +37,8 @@ sums_of Hp f = f.hp
 sums_of Lp f = unwrap_or f.lp nothing
 
 -- the counts of a stream in all lines add up to its closing line
-pub record AreTotals (s : Settings) (bytes : List ℕ) (frames : ℕ → SuperFrame) (σ : Stream) (closing : StreamCounts) : Type 0 where
+pub record AreTotals (s : Settings) (bytes : List ℕ) (frames : ℕ → SuperFrame) (σ : Stream) (closing : StreamCounts) :
+    Type 0 where
   pub words : over_frames s bytes frames (λ f. (sums_of σ f).words) ≡ closing.words
   pub clean : over_frames s bytes frames (λ f. (sums_of σ f).clean) ≡ closing.clean
   pub corrected : over_frames s bytes frames (λ f. (sums_of σ f).corrected) ≡ closing.corrected
@@ -46,4 +58,5 @@ LinesAddUp = (s : Settings) (bytes out : List ℕ) (m : MeasureFinal s bytes out
 
 -- its closing lines are those of any reception of the bytes
 abbrev pub ClosingIsReceived : Type 0
-ClosingIsReceived = (s : Settings) (bytes out : List ℕ) (m : MeasureFinal s bytes out) (r : Reception) → Final s bytes r → closing_lines s bytes m.reception ≡ closing_lines s bytes r
+ClosingIsReceived = (s : Settings) (bytes out : List ℕ) (m : MeasureFinal s bytes out) (r : Reception) → Final s bytes r
+    → closing_lines s bytes m.reception ≡ closing_lines s bytes r

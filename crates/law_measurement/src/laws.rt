@@ -3,16 +3,17 @@ ghost use Rattle.std.specs.Prelude.{ℕ};
 ghost use Rattle.law_link.specs.Counted.{AreCounted};
 ghost use Rattle.law_measurement.specs.Totals.{LinesAddUp, ClosingIsReceived};
 ghost use Rattle.law_measurement.specs.Remade.{RemadeAreSent, ErrorIsFromSent};
-ghost use Rattle.law_measurement.specs.Own.{NearPointsAreDecided, SymbolsAreCompared, NoiseIsMeasured, OwnIsMeasured, FramesAreNear, FramesAreExact};
+ghost use Rattle.law_measurement.specs.Own.{NearPointsAreDecided, SymbolsAreCompared, NoiseIsMeasured, OwnIsMeasured};
+ghost use Rattle.law_measurement.specs.Own.{FramesAreNear, FramesAreExact};
 
 use bit_interleave::laws::each_bit_is_found;
+use code_paths::uniqueness::existence;
 use code_paths::{
     ended_once, given_begins_ended, given_grows, given_once, keeps_sent, reports_once,
 };
+use law_link::laws::own_cells;
 use mode_set::{Mode, symbols_have_whole_periods};
 use outer_chain::laws::bits;
-use law_link::laws::own_cells;
-use code_paths::uniqueness::existence;
 use pilots::{payload_carriers_are_numbered, symbols_have_as_many_payload_carriers};
 use puncture::{lists_are_paths, sent_bits_have_steps, steps_are_numbered, steps_send_in_order};
 use reception::laws::costs;

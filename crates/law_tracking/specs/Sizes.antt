@@ -18,7 +18,8 @@ TurnsAreSmall = (c : Comb) (m t : ℕ) → IsWithin (2 ^ 14) (turn c m t)
 -- a bound of the taps' absolute sum, whichever of the four symbols count
 abbrev pub SumsAreSmall : Type 0
 SumsAreSmall = (f : Motion) (d : ℕ) (counts : ℕ → Bool) → d < 4
-    → sum_by (λ p. nat_abs (tap_at f d (filter counts (map (place d) (numbers 4))) p)) (filter counts (map (place d) (numbers 4))) ≤ 5620
+    → sum_by (λ p. nat_abs (tap_at f d (filter counts (map (place d) (numbers 4))) p))
+    (filter counts (map (place d) (numbers 4))) ≤ 5620
 
 -- 5620 * 2^30 / 2^22
 abbrev pub most_gain : ℕ

@@ -21,7 +21,8 @@ use Rattle.law_link.specs.Flat.{IsFlat, CameThrough, IsRestored}
 
 -- the whole symbols of the bytes
 unfoldable pub received : Settings → List ℕ → List Symbol
-received s bytes = map (λ m. record { cells = symbol_cells s bytes m; weights = symbol_weights s bytes m }) (numbers (symbols s bytes))
+received s bytes = map (λ m. record { cells = symbol_cells s bytes m; weights = symbol_weights s bytes m })
+    (numbers (symbols s bytes))
 
 -- the bytes after correction
 unfoldable pub tracked_file : Settings → List ℕ → List ℕ
@@ -32,35 +33,46 @@ tracked_file s bytes = flat_map (tracked_bytes s (received s bytes)) (numbers (s
 pub record HaveBegun (s : Settings) (inputs : Inputs) (a b : ℤ) (bytes : List ℕ) : Type 0 where
   pub some : 4 ≤ symbols s bytes
   pub most : symbols s bytes ≤ symbols_of s inputs
-  pub through : (m k : ℕ) → m < symbols s bytes → k < carriers s.mode → CameThrough a b (tx_cell s inputs m k) (cell_of (symbol_cells s bytes m) k)
+  pub through : (m k : ℕ) → m < symbols s bytes → k < carriers s.mode
+      → CameThrough a b (tx_cell s inputs m k) (cell_of (symbol_cells s bytes m) k)
   pub counts : (m k : ℕ) → m < symbols s bytes → k < carriers s.mode → 1 ≤ weight_of (symbol_weights s bytes m) k
 
 -- each symbol of such a file is restored to within 256 on both axes ..
 pub record AreTracked (s : Settings) (inputs : Inputs) (bytes : List ℕ) : Type 0 where
   pub all : symbols s (tracked_file s bytes) ≡ symbols s bytes
   pub each : (m k : ℕ) → m < symbols s bytes → k < carriers s.mode
-      → IsRestored 256 (tx_cell s inputs m k) (record { cell = cell_of (symbol_cells s (tracked_file s bytes) m) k; weight = weight_of (symbol_weights s (tracked_file s bytes) m) k })
+      → IsRestored 256 (tx_cell s inputs m k)
+      (record {
+        cell = cell_of (symbol_cells s (tracked_file s bytes) m) k;
+        weight
+            = weight_of (symbol_weights s (tracked_file s bytes) m) k;
+      })
 
 abbrev pub BeginningsAreTracked : Type 0
-BeginningsAreTracked = (s : Settings) (inputs : Inputs) (a b : ℤ) (bytes : List ℕ) → IsFlat a b → HaveBegun s inputs a b bytes → AreTracked s inputs bytes
+BeginningsAreTracked = (s : Settings) (inputs : Inputs) (a b : ℤ) (bytes : List ℕ) → IsFlat a b
+    → HaveBegun s inputs a b bytes → AreTracked s inputs bytes
 
 -- .. and so is a whole file ..
 abbrev pub FilesAreTracked : Type 0
-FilesAreTracked = (s : Settings) (inputs : Inputs) (a b : ℤ) (bytes : List ℕ) → IsFlat a b → 4 ≤ symbols s bytes → HaveCome s inputs a b bytes → AreRestored 256 s inputs (tracked_file s bytes)
+FilesAreTracked = (s : Settings) (inputs : Inputs) (a b : ℤ) (bytes : List ℕ) → IsFlat a b → 4 ≤ symbols s bytes
+    → HaveCome s inputs a b bytes → AreRestored 256 s inputs (tracked_file s bytes)
 
 -- .. which is within the tolerance of every constellation ..
 abbrev pub IsWellTolerated : Type 0
 IsWellTolerated = (s : Shape) (h : Hierarchy) → 256 ≤ tolerance s h
 
 abbrev pub TrackedAreWithin : Type 0
-TrackedAreWithin = (s : Settings) (inputs : Inputs) (a b : ℤ) (bytes : List ℕ) → IsFlat a b → 4 ≤ symbols s bytes → HaveCome s inputs a b bytes → IsWithin s inputs (tracked_file s bytes)
+TrackedAreWithin = (s : Settings) (inputs : Inputs) (a b : ℤ) (bytes : List ℕ) → IsFlat a b → 4 ≤ symbols s bytes
+    → HaveCome s inputs a b bytes → IsWithin s inputs (tracked_file s bytes)
 
 -- .. so a receiver gives the packets sent, then null packets ..
 abbrev pub TrackedAreReturned : Type 0
-TrackedAreReturned = (s : Settings) (inputs : Inputs) (a b : ℤ) (bytes : List ℕ) (r : Reception) → s.start ≡ Zero → HavePackets s inputs → IsFlat a b → HaveCome s inputs a b bytes
+TrackedAreReturned = (s : Settings) (inputs : Inputs) (a b : ℤ) (bytes : List ℕ) (r : Reception) → s.start ≡ Zero
+    → HavePackets s inputs → IsFlat a b → HaveCome s inputs a b bytes
     → Final s (tracked_file s bytes) r → IsReturned s inputs r.packets
 
 -- .. and all words are clean
 abbrev pub TrackedAreClean : Type 0
-TrackedAreClean = (s : Settings) (inputs : Inputs) (a b : ℤ) (bytes : List ℕ) (r : Reception) → s.start ≡ Zero → HavePackets s inputs → IsFlat a b → HaveCome s inputs a b bytes
+TrackedAreClean = (s : Settings) (inputs : Inputs) (a b : ℤ) (bytes : List ℕ) (r : Reception) → s.start ≡ Zero
+    → HavePackets s inputs → IsFlat a b → HaveCome s inputs a b bytes
     → Final s (tracked_file s bytes) r → AreClean s inputs r.tally

@@ -1,5 +1,6 @@
 // The flat gain law of channel tracking, as contracts of functions with empty bodies.
-ghost use Rattle.law_tracking.specs.Tracked.{BeginningsAreTracked, FilesAreTracked, IsWellTolerated, TrackedAreClean, TrackedAreReturned, TrackedAreWithin};
+ghost use Rattle.law_tracking.specs.Tracked.{BeginningsAreTracked, FilesAreTracked, IsWellTolerated, TrackedAreClean};
+ghost use Rattle.law_tracking.specs.Tracked.{TrackedAreReturned, TrackedAreWithin};
 
 use frame_build::cells_are_read_back;
 use law_link::laws::noise;

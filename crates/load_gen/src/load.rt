@@ -1,6 +1,7 @@
 // Random values from a number.
 ghost use Rattle.std.specs.Prelude.{◌≡◌, ◌≤◌, nat_abs};
-ghost use Rattle.load_gen.specs.Draws.{generator, after, word, count_of, shift_of, piece_of, packet_of, burst_length, burst_mask};
+ghost use Rattle.load_gen.specs.Draws.{generator, after, word, count_of, shift_of, piece_of, packet_of, burst_length};
+ghost use Rattle.load_gen.specs.Draws.{burst_mask};
 
 use rand_core::utils::{NextWord, fill_bytes_via_u32};
 use rand_pcg::Lcg64Xsh32;

@@ -15,7 +15,8 @@ abbrev pub AreLong : TxState → Type 0
 AreLong coder = (length coder.hp ≡ 6) × (length coder.lp ≡ 6)
 
 -- the mode of the settings is that of the type; there is space for the labels of a symbol, and for four symbols
-pub record IsComparing (mode : Mode) (settings : Settings) (coder : TxState) (capacity : ℕ) (kept : List SymbolState) (next : ℕ) : Type 0 where
+pub record IsComparing (mode : Mode) (settings : Settings) (coder : TxState) (capacity : ℕ) (kept : List SymbolState)
+    (next : ℕ) : Type 0 where
   pub mode_is : settings.mode ≡ mode
   pub coder_is : coder.settings ≡ settings
   pub registers : AreLong coder

@@ -39,7 +39,8 @@ beside s symbol known m = record {
 }
 
 -- the sums of symbol m, exactly if it is compared
-pub record IsSummed (s : Settings) (symbol : SymbolState) (known : Stream → List Bool) (m : ℕ) (result : Option SymbolSums) : Type 0 where
+pub record IsSummed (s : Settings) (symbol : SymbolState) (known : Stream → List Bool) (m : ℕ)
+    (result : Option SymbolSums) : Type 0 where
   pub some : IfSome result (λ sums. (is_compared s m known ≡ true) × (sums ≡ symbol_sums (beside s symbol known m)))
   pub none : IsNone result → is_compared s m known ≡ false
 

@@ -1,5 +1,6 @@
 // Symbols beside their remade labels.
-ghost use Rattle.std.specs.Prelude.{◌≡◌, ◌≢◌, ◌+◌, ◌%◌, ◌<◌, ◌≤◌, ◌^◌, ℕ, List, Bool, IfOk, IfSome, length, slice_index, slice_set, vec_capacity, All};
+ghost use Rattle.std.specs.Prelude.{◌≡◌, ◌≢◌, ◌+◌, ◌%◌, ◌<◌, ◌≤◌, ◌^◌, ℕ, List, Bool, IfOk, IfSome, length};
+ghost use Rattle.std.specs.Prelude.{slice_index, slice_set, vec_capacity, All};
 ghost use Rattle.mode_set.specs.StreamTable.{carriers, payload, label_bits};
 ghost use Rattle.mode_set.specs.declared.modes.Stream.{Stream as AnyStream};
 ghost use Rattle.conv_code.specs.Coded.{zeros};
@@ -17,12 +18,12 @@ use crate::streams::{has_all, leave_out, pass_both, remake};
 use inner_chain::InnerTx;
 use measure_known_bits::KnownBits;
 use measure_report::SymbolSums;
+use measure_sums::sum_symbol;
 use mode_set::{Carriers, Settings};
 use qam_map::Cell;
 use std::alloc::{AllocError, Global};
 use std::marker::Model;
 use symbol_parameters::parameters_of_symbol;
-use measure_sums::sum_symbol;
 
 /// The symbols that are kept.
 const KEPT: usize = 4;
@@ -67,15 +68,25 @@ fn room_for_symbols(alloc: Global, carriers: usize) -> Result<Vec<KeptSymbol>, A
 fn sum_kept(settings: &Settings, l: u8, labels: &[u8], kept: &KeptSymbol) -> SymbolSums
     requires symbol { l < 68 }
     requires count { length labels.now ≡ payload settings.now.mode }
-    requires small { (q : ℕ) → q < payload settings.now.mode → slice_index labels.now q < 2 ^ label_bits settings.now.shape }
+    requires small { (q : ℕ) → q < payload settings.now.mode
+        → slice_index labels.now q < 2 ^ label_bits settings.now.shape }
     requires whole { IsWhole (carriers settings.now.mode) kept.now }
     ensures little { AreLittle result (payload settings.now.mode) }
-    ensures sums { result ≡ symbol_sums (record { settings = settings.now; cells = kept.now.cells; weights = kept.now.weights; symbol = l; labels = λ q. is_set (slice_index labels.now q) }) }
+    ensures sums { result ≡ symbol_sums
+        (record {
+          settings = settings.now;
+          cells = kept.now.cells;
+          weights = kept.now.weights;
+          symbol = l;
+          labels
+              = λ q. is_set (slice_index labels.now q);
+        }) }
 {
     sum_symbol(settings, l, labels, kept.cells(), kept.weights())
 }
 
-/// The sums of symbol `m`, which is kept, beside what the known bits of the streams stand for: None exactly if it is not compared.
+/// The sums of symbol `m`, which is kept, beside what the known bits of the streams stand for: None exactly if it is
+/// not compared.
 fn compare_symbol<M: Carriers>(
     settings: &Settings,
     m: u64,
@@ -96,8 +107,10 @@ fn compare_symbol<M: Carriers>(
     ensures capacity { vec_capacity labels.new ≡ vec_capacity labels.old }
     ensures registers { AreLong coder.new }
     ensures little { IfSome result (λ sums. AreLittle sums (payload settings.now.mode)) }
-    ensures summed { (known : AnyStream → List Bool) → HavePassed settings.now m hp.old lp.old coder.old known → IsSummed settings.now kept.now known m result }
-    ensures passed { (known : AnyStream → List Bool) → HavePassed settings.now m hp.old lp.old coder.old known → HavePassed settings.now (m + 1) hp.new lp.new coder.new known }
+    ensures summed { (known : AnyStream → List Bool) → HavePassed settings.now m hp.old lp.old coder.old known
+        → IsSummed settings.now kept.now known m result }
+    ensures passed { (known : AnyStream → List Bool) → HavePassed settings.now m hp.old lp.old coder.old known
+        → HavePassed settings.now (m + 1) hp.new lp.new coder.new known }
 {
     symbol_parameters::laws::settings();
     symbol_parameters::laws::steps();
@@ -115,7 +128,8 @@ fn compare_symbol<M: Carriers>(
 }
 
 impl<M: Carriers> Comparer<M> {
-    /// Before the first symbol. It takes all its memory, enough for any parameters of the mode; the only error is want of it.
+    /// Before the first symbol. It takes all its memory, enough for any parameters of the mode; the only error is want
+    /// of it.
     pub fn new(alloc: Global, settings: &Settings) -> Result<Self, AllocError>
         requires mode { settings.now.mode ≡ M.MODE }
         ensures settings { IfOk result (λ x. x.settings ≡ settings.now) }
@@ -139,10 +153,15 @@ impl<M: Carriers> Comparer<M> {
     pub fn keep(&mut self, symbol: u64, cells: &[Cell], weights: &[u8])
         requires cells { length cells.now ≡ carriers self.old.settings.mode }
         requires weights { length weights.now ≡ carriers self.old.settings.mode }
-        ensures kept { self.new ≡ record self.old { kept = slice_set self.old.kept (symbol % 4) (record { cells = cells.now; weights = weights.now }) } }
-        ensures here { (d : SymbolState) → kept_at self.new symbol d ≡ record { cells = cells.now; weights = weights.now } }
+        ensures kept { self.new ≡ record self.old {
+          kept = slice_set self.old.kept (symbol % 4)
+              (record { cells = cells.now; weights = weights.now });
+        } }
+        ensures here { (d : SymbolState) → kept_at self.new symbol d
+            ≡ record { cells = cells.now; weights = weights.now } }
         ensures others { (m : ℕ) (d : SymbolState) → m % 4 ≢ symbol % 4 → kept_at self.new m d ≡ kept_at self.old m d }
-        ensures stands { (m : ℕ) (hp lp : KnownState) (known : AnyStream → List Bool) → StandsBefore m self.old hp lp known → StandsBefore m self.new hp lp known }
+        ensures stands { (m : ℕ) (hp lp : KnownState) (known : AnyStream → List Bool)
+            → StandsBefore m self.old hp lp known → StandsBefore m self.new hp lp known }
     {
         self.kept[(symbol % 4) as usize].put(cells, weights);
     }
@@ -154,9 +173,11 @@ impl<M: Carriers> Comparer<M> {
         self.next
     }
 
-    /// The sums of the next symbol beside what the known bits of the streams stand for: None exactly if it is not compared.
+    /// The sums of the next symbol beside what the known bits of the streams stand for: None exactly if it is not
+    /// compared.
     ///
-    /// The symbol is one of the four that are kept, and fewer than 2^32 symbols were compared or left out. The encoders pass the known
+    /// The symbol is one of the four that are kept, and fewer than 2^32 symbols were compared or left out. The encoders
+    /// pass the known
     /// bits of a symbol that is left out.
     pub fn compare(&mut self, hp: &mut KnownBits, lp: &mut KnownBits) -> Option<SymbolSums>
         requires few { self.old.next < 2 ^ 32 }
@@ -168,8 +189,11 @@ impl<M: Carriers> Comparer<M> {
         ensures hp_settled { IsSettled hp.new }
         ensures lp_settled { IsSettled lp.new }
         ensures little { IfSome result (λ sums. AreLittle sums (payload self.old.settings.mode)) }
-        ensures summed { (m : ℕ) (known : AnyStream → List Bool) (d : SymbolState) → StandsBefore m self.old hp.old lp.old known → IsSummed self.old.settings (kept_at self.old m d) known m result }
-        ensures stands { (m : ℕ) (known : AnyStream → List Bool) → StandsBefore m self.old hp.old lp.old known → StandsBefore (m + 1) self.new hp.new lp.new known }
+        ensures summed { (m : ℕ) (known : AnyStream → List Bool) (d : SymbolState)
+            → StandsBefore m self.old hp.old lp.old known → IsSummed self.old.settings (kept_at self.old m d) known m
+            result }
+        ensures stands { (m : ℕ) (known : AnyStream → List Bool) → StandsBefore m self.old hp.old lp.old known
+            → StandsBefore (m + 1) self.new hp.new lp.new known }
     {
         let m = self.next;
         self.next += 1;

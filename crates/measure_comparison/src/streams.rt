@@ -1,5 +1,6 @@
 // The encoders of both streams among their known bits, and the labels that they make.
-ghost use Rattle.std.specs.Prelude.{◌≡◌, ◌+◌, ◌%◌, ◌<◌, ◌≤◌, ◌^◌, ◌&&◌, ◌==◌, ℕ, List, Bool, [], take, drop, length, slice_index, vec_capacity};
+ghost use Rattle.std.specs.Prelude.{◌≡◌, ◌+◌, ◌%◌, ◌<◌, ◌≤◌, ◌^◌, ◌&&◌, ◌==◌, ℕ, List, Bool, [], take, drop, length};
+ghost use Rattle.std.specs.Prelude.{slice_index, vec_capacity};
 ghost use Rattle.mode_set.specs.StreamTable.{need, payload, label_bits};
 ghost use Rattle.mode_set.specs.Entries.{with_entry};
 ghost use Rattle.mode_set.specs.declared.modes.Stream.{Stream as AnyStream};
@@ -28,7 +29,8 @@ pub(crate) fn pass_both<M: Carriers>(coder: &mut InnerTx<M>, hp: &mut KnownBits,
     ensures lp_before { lp.new.before ≡ lp.old.before }
     ensures hp_lag { hp.new.lag ≤ hp.new.before }
     ensures lp_lag { lp.new.lag ≤ lp.new.before }
-    ensures passed { (s : AnySettings) (m : ℕ) (known : AnyStream → List Bool) → HavePassed s m hp.old lp.old coder.old known → HavePassed s m hp.new lp.new coder.new known }
+    ensures passed { (s : AnySettings) (m : ℕ) (known : AnyStream → List Bool)
+        → HavePassed s m hp.old lp.old coder.old known → HavePassed s m hp.new lp.new coder.new known }
 {
     hp.pass_by(Stream::Hp, coder);
     lp.pass_by(Stream::Lp, coder);
@@ -68,7 +70,8 @@ pub(crate) fn leave_out(settings: &Settings, hp: &mut KnownBits, lp: &mut KnownB
     requires lp_before { lp.old.before < 2 ^ 60 }
     requires hp_lag { hp.old.lag < 2 ^ 60 }
     requires lp_lag { lp.old.lag < 2 ^ 60 }
-    ensures passed { (s : AnySettings) (m : ℕ) (coder : TxState) (known : AnyStream → List Bool) → settings.now ≡ settings_at s m → HavePassed s m hp.old lp.old coder known → HavePassed s (m + 1) hp.new lp.new coder known }
+    ensures passed { (s : AnySettings) (m : ℕ) (coder : TxState) (known : AnyStream → List Bool) → settings.now
+        ≡ settings_at s m → HavePassed s m hp.old lp.old coder known → HavePassed s (m + 1) hp.new lp.new coder known }
 {
     symbol_parameters::laws::steps();
     hp.leave_out(settings.need(Stream::Hp));
@@ -91,15 +94,28 @@ fn make_labels<M: Carriers>(
     requires spare { payload coder.old.settings.mode ≤ vec_capacity labels.old }
     ensures settings { coder.new.settings ≡ coder.old.settings }
     ensures capacity { vec_capacity labels.new ≡ vec_capacity labels.old }
-    ensures hp { hp.new ≡ record hp.old { waiting = drop (need (with_entry coder.old.settings entry.now) Hp) hp.old.waiting; before = hp.old.before + need (with_entry coder.old.settings entry.now) Hp } }
-    ensures lp { lp.new ≡ record lp.old { waiting = drop (need (with_entry coder.old.settings entry.now) Lp) lp.old.waiting; before = lp.old.before + need (with_entry coder.old.settings entry.now) Lp } }
+    ensures hp { hp.new ≡ record hp.old {
+      waiting = drop (need (with_entry coder.old.settings entry.now) Hp)
+          hp.old.waiting;
+      before = hp.old.before + need (with_entry coder.old.settings entry.now) Hp;
+    } }
+    ensures lp { lp.new ≡ record lp.old {
+      waiting = drop (need (with_entry coder.old.settings entry.now) Lp)
+          lp.old.waiting;
+      before = lp.old.before + need (with_entry coder.old.settings entry.now) Lp;
+    } }
     ensures labels { (paths : Paths) → IsBefore coder.old paths
-        → take (need (with_entry coder.old.settings entry.now) Hp) hp.old.waiting ≡ input_bits (with_entry coder.old.settings entry.now) paths Hp
-        → take (need (with_entry coder.old.settings entry.now) Lp) lp.old.waiting ≡ input_bits (with_entry coder.old.settings entry.now) paths Lp
-        → AppendsLabels (with_entry coder.old.settings entry.now) odd (coded_bits (with_entry coder.old.settings entry.now) paths) [] labels.new.items }
+        → take (need (with_entry coder.old.settings entry.now) Hp) hp.old.waiting
+        ≡ input_bits (with_entry coder.old.settings entry.now) paths Hp
+        → take (need (with_entry coder.old.settings entry.now) Lp) lp.old.waiting
+        ≡ input_bits (with_entry coder.old.settings entry.now) paths Lp
+        → AppendsLabels (with_entry coder.old.settings entry.now) odd
+        (coded_bits (with_entry coder.old.settings entry.now) paths) [] labels.new.items }
     ensures next { (paths : Paths) → IsBefore coder.old paths
-        → take (need (with_entry coder.old.settings entry.now) Hp) hp.old.waiting ≡ input_bits (with_entry coder.old.settings entry.now) paths Hp
-        → take (need (with_entry coder.old.settings entry.now) Lp) lp.old.waiting ≡ input_bits (with_entry coder.old.settings entry.now) paths Lp
+        → take (need (with_entry coder.old.settings entry.now) Hp) hp.old.waiting
+        ≡ input_bits (with_entry coder.old.settings entry.now) paths Hp
+        → take (need (with_entry coder.old.settings entry.now) Lp) lp.old.waiting
+        ≡ input_bits (with_entry coder.old.settings entry.now) paths Lp
         → IsBefore coder.new (behind (with_entry coder.old.settings entry.now) paths) }
 {
     let mut hp_bits = WaitBuf::new();
@@ -129,11 +145,14 @@ pub(crate) fn remake<M: Carriers>(
     ensures capacity { vec_capacity labels.new ≡ vec_capacity labels.old }
     ensures registers { AreLong coder.new }
     ensures count { length labels.new.items ≡ payload (settings_at coder.old.settings m).mode }
-    ensures small { (q : ℕ) → q < payload (settings_at coder.old.settings m).mode → slice_index labels.new.items q < 2 ^ label_bits (settings_at coder.old.settings m).shape }
+    ensures small { (q : ℕ) → q < payload (settings_at coder.old.settings m).mode
+        → slice_index labels.new.items q < 2 ^ label_bits (settings_at coder.old.settings m).shape }
     ensures remade { (known : AnyStream → List Bool) → HavePassed coder.old.settings m hp.old lp.old coder.old known
-        → (q e : ℕ) → q < payload (settings_at coder.old.settings m).mode → e < label_bits (settings_at coder.old.settings m).shape
+        → (q e : ℕ) → q < payload (settings_at coder.old.settings m).mode
+        → e < label_bits (settings_at coder.old.settings m).shape
         → is_set (slice_index labels.new.items q) e ≡ remade_bit coder.old.settings known m q e }
-    ensures passed { (known : AnyStream → List Bool) → HavePassed coder.old.settings m hp.old lp.old coder.old known → HavePassed coder.old.settings (m + 1) hp.new lp.new coder.new known }
+    ensures passed { (known : AnyStream → List Bool) → HavePassed coder.old.settings m hp.old lp.old coder.old known
+        → HavePassed coder.old.settings (m + 1) hp.new lp.new coder.new known }
 {
     symbol_parameters::laws::steps();
     make_labels(coder, entry, m % 2 == 1, hp, lp, labels);

@@ -16,7 +16,8 @@ NothingPassed = (s : Settings) (σ : Stream) → HasPassed s σ 0 nothing_known 
 
 -- more known bits are pending
 abbrev pub MoreBitsKnown : Type 0
-MoreBitsKnown = (s : Settings) (σ : Stream) (m : ℕ) (k : KnownState) (register known more : List Bool) → HasPassed s σ m k register known
+MoreBitsKnown = (s : Settings) (σ : Stream) (m : ℕ) (k : KnownState) (register known more : List Bool)
+    → HasPassed s σ m k register known
     → HasPassed s σ m (record k { waiting = k.waiting ++ more }) register (known ++ more)
 
 -- n symbols from symbol m on have at most 31,752 steps each
@@ -25,5 +26,6 @@ StepsAreFew = (s : Settings) (σ : Stream) (m n : ℕ) → steps_before s σ (m 
 
 -- if the encoder is settled before symbol m, the pending known bits are those of at most n more symbols
 abbrev pub FewWait : Type 0
-FewWait = (s : Settings) (σ : Stream) (m n : ℕ) (k : KnownState) (register known : List Bool) → HasPassed s σ m k register known → IsSettled k
+FewWait = (s : Settings) (σ : Stream) (m n : ℕ) (k : KnownState) (register known : List Bool)
+    → HasPassed s σ m k register known → IsSettled k
     → length known ≤ steps_before s σ (m + n) → length k.waiting ≤ 31752 * n

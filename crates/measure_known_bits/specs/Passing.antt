@@ -24,7 +24,8 @@ pub record HasPassed (s : Settings) (σ : Stream) (m : ℕ) (k : KnownState) (re
 -- the encoder has passed n of the pending bits
 pub record Skips (old new old_register new_register : List Bool) (n : ℕ) : Type 0 where
   pub waiting : new ≡ drop n old
-  pub register : (path : ℕ → Bool) (t : ℕ) → old_register ≡ bits_from path t 6 → take n old ≡ bits_from path (t + 6) n → new_register ≡ bits_from path (t + n) 6
+  pub register : (path : ℕ → Bool) (t : ℕ) → old_register ≡ bits_from path t 6 → take n old ≡ bits_from path (t + 6) n
+      → new_register ≡ bits_from path (t + n) 6
 
 -- it has passed all steps before the symbol, or all known bits
 abbrev pub IsSettled : KnownState → Type 0
@@ -33,4 +34,5 @@ IsSettled k = (k.lag ≡ 0) ⊎ (k.waiting ≡ [])
 -- a symbol of these parameters is without the stream; or the known bits reach the end of its steps, and the register
 -- before them is known
 abbrev pub has_bits : Settings → Stream → KnownState → Bool
-has_bits s σ k = not (has_stream s.hierarchy σ) || (nat_le (k.lag + need s σ) (length k.waiting) && (is_zero s.start || nat_le 6 k.before))
+has_bits s σ k = not (has_stream s.hierarchy σ) || (nat_le (k.lag + need s σ) (length k.waiting) &&
+    (is_zero s.start || nat_le 6 k.before))

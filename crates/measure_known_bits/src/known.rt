@@ -1,5 +1,6 @@
 // The known bits of a stream.
-ghost use Rattle.std.specs.Prelude.{◌≡◌, ◌≢◌, ◌+◌, ◌*◌, ◌<◌, ◌≤◌, ◌^◌, ◌↔◌, ◌⊎◌, ◌&&◌, ◌||◌, [], ◌∷◌, ◌++◌, ℕ, List, Bool, not, nat_le, IfOk, IsTrue, length, take, drop};
+ghost use Rattle.std.specs.Prelude.{◌≡◌, ◌≢◌, ◌+◌, ◌*◌, ◌<◌, ◌≤◌, ◌^◌, ◌↔◌, ◌⊎◌, ◌&&◌, ◌||◌, [], ◌∷◌, ◌++◌, ℕ, List};
+ghost use Rattle.std.specs.Prelude.{Bool, not, nat_le, IfOk, IsTrue, length, take, drop};
 ghost use Rattle.spec_words.specs.Bits.{spelled};
 ghost use Rattle.mode_set.specs.declared.modes.Stream.{Stream as AnyStream};
 ghost use Rattle.mode_set.specs.declared.settings.Settings.{Settings as AnySettings};
@@ -69,17 +70,21 @@ impl KnownBits {
         ensures long { length (register_of coder.old stream) ≡ 6 → length (register_of coder.new stream) ≡ 6 }
         ensures few { length self.new.waiting ≤ length self.old.waiting }
         ensures other { (σ : AnyStream) → σ ≢ stream → register_of coder.new σ ≡ register_of coder.old σ }
-        ensures passed { (s : AnySettings) (m : ℕ) (known : List Bool) → HasPassed s stream m self.old (register_of coder.old stream) known → HasPassed s stream m self.new (register_of coder.new stream) known }
+        ensures passed { (s : AnySettings) (m : ℕ) (known : List Bool)
+            → HasPassed s stream m self.old (register_of coder.old stream) known
+            → HasPassed s stream m self.new (register_of coder.new stream) known }
     {
         let count = self.lag.min(self.waiting.waiting() as u64);
         skip_bits(&mut self.waiting, stream, coder, count as usize);
         self.lag -= count;
     }
 
-    /// Is the next symbol without the stream, or do the known bits reach to the end of its steps, and is the register before them known?
+    /// Is the next symbol without the stream, or do the known bits reach to the end of its steps, and is the register
+    /// before them known?
     pub fn suffices(&self, present: bool, steps: u32, zero: bool) -> bool
         requires lag { self.now.lag < 2 ^ 60 }
-        ensures result { result ≡ (not present || (nat_le (self.now.lag + steps) (length self.now.waiting) && (zero || nat_le 6 self.now.before))) }
+        ensures result { result ≡ (not present || (nat_le (self.now.lag + steps) (length self.now.waiting) &&
+            (zero || nat_le 6 self.now.before))) }
     {
         !present
             || (self.lag + steps as u64 <= self.waiting.waiting() as u64
@@ -93,7 +98,11 @@ impl KnownBits {
         requires none { to.old ≡ [] }
         requires before { self.old.before < 2 ^ 60 }
         ensures taken { to.new ≡ take steps self.old.waiting }
-        ensures left { self.new ≡ record self.old { waiting = drop steps self.old.waiting; before = self.old.before + steps } }
+        ensures left { self.new ≡ record self.old {
+          waiting = drop steps self.old.waiting;
+          before = self.old.before +
+              steps;
+        } }
     {
         move_bits(&mut self.waiting, to, steps as usize);
         self.before += steps as u64;

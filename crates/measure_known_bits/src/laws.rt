@@ -9,7 +9,8 @@ pub fn passing()
     symbol_parameters::laws::steps();
 }
 
-/// A symbol has at most 31,752 steps of a stream. If the encoder has passed what it could, no more bits wait than the symbols from
+/// A symbol has at most 31,752 steps of a stream. If the encoder has passed what it could, no more bits wait than the
+/// symbols from
 /// the next one on have steps.
 pub fn rooms()
     ensures steps { StepsAreFew }

@@ -13,11 +13,13 @@ use Rattle.measure_stream.specs.Standing.{Stands, IsReady, HasRun}
 
 -- a running meter is ready for a symbol
 abbrev pub StandsReady : Type 0
-StandsReady = (x : StreamMeter) (s : Settings) (σ : Stream) (j from : ℕ) (c : List CostPair) (bits : List Bool) (reports : List ℕ) → Stands so_far x s σ j from c bits reports → IsReady x
+StandsReady = (x : StreamMeter) (s : Settings) (σ : Stream) (j from : ℕ) (c : List CostPair) (bits : List Bool)
+    (reports : List ℕ) → Stands so_far x s σ j from c bits reports → IsReady x
 
 -- its decoder may run a symbol
 abbrev pub RunsOn : Type 0
-RunsOn = (x : StreamMeter) (ran : BranchState) (pairs : List CostPair) → IsReady x → HasTaken pairs x.branch ran → HasRun (record x { branch = ran })
+RunsOn = (x : StreamMeter) (ran : BranchState) (pairs : List CostPair) → IsReady x → HasTaken pairs x.branch ran
+    → HasRun (record x { branch = ran })
 
 -- Bounds of counts by steps: a word has 1632 bits, and no super-frame has more than 5292 words of a stream.
 pub record AreFewOfSteps (x : StreamMeter) (j steps : ℕ) : Type 0 where
@@ -26,16 +28,21 @@ pub record AreFewOfSteps (x : StreamMeter) (j steps : ℕ) : Type 0 where
   pub before : x.words_before ≤ 5292 * (j + 1)
 
 abbrev pub CountsAreFew : Type 0
-CountsAreFew = (x : StreamMeter) (s : Settings) (σ : Stream) (j from : ℕ) (c : List CostPair) (bits : List Bool) (reports : List ℕ) → Stands so_far x s σ j from c bits reports → AreFewOfSteps x j (length c)
+CountsAreFew = (x : StreamMeter) (s : Settings) (σ : Stream) (j from : ℕ) (c : List CostPair) (bits : List Bool)
+    (reports : List ℕ) → Stands so_far x s σ j from c bits reports → AreFewOfSteps x j (length c)
 
 -- Before symbol m the encoder has passed all it could. The decoder has had the first n symbols, at most three more.
 -- There is space for the known bits, including those that one more symbol gives, and those at the end.
 abbrev pub RoomForSymbol : Type 0
-RoomForSymbol = (x : StreamMeter) (ran : BranchState) (pairs : List CostPair) (s : Settings) (σ : Stream) (j from m n : ℕ) (register : List Bool) (c : List CostPair) (bits : List Bool) (reports : List ℕ)
-    → Stands so_far x s σ j from c bits reports → HasPassed s σ m x.known register bits → IsSettled x.known → length c ≡ steps_before s σ n → n ≤ m + 3 → length pairs ≤ 31752
+RoomForSymbol = (x : StreamMeter) (ran : BranchState) (pairs : List CostPair) (s : Settings) (σ : Stream)
+    (j from m n : ℕ) (register : List Bool) (c : List CostPair) (bits : List Bool) (reports : List ℕ)
+    → Stands so_far x s σ j from c bits reports → HasPassed s σ m x.known register bits → IsSettled x.known → length c
+    ≡ steps_before s σ n → n ≤ m + 3 → length pairs ≤ 31752
     → HasTaken pairs x.branch ran → length x.known.waiting + length ran.wait ≤ 127008
 
 abbrev pub RoomAtEnd : Type 0
-RoomAtEnd = (x : StreamMeter) (s : Settings) (σ : Stream) (j from m n : ℕ) (register : List Bool) (c : List CostPair) (bits : List Bool) (reports : List ℕ)
-    → Stands so_far x s σ j from c bits reports → HasPassed s σ m x.known register bits → IsSettled x.known → length c ≡ steps_before s σ n → n ≤ m + 3
+RoomAtEnd = (x : StreamMeter) (s : Settings) (σ : Stream) (j from m n : ℕ) (register : List Bool) (c : List CostPair)
+    (bits : List Bool) (reports : List ℕ)
+    → Stands so_far x s σ j from c bits reports → HasPassed s σ m x.known register bits → IsSettled x.known → length c
+    ≡ steps_before s σ n → n ≤ m + 3
     → length x.known.waiting + x.branch.decoder.waiting ≤ 127008

@@ -14,12 +14,15 @@ pub record HasBits (part : List Bool) (words : WordsState) (bits : List Bool) (d
   pub measures : Measures words bytes done from limit
 
 -- the first n pending bits of the decoder were passed on
-pub record Takes (n : ℕ) (old_branch : BranchState) (old_known : KnownState) (old_part : List Bool) (old_words : WordsState) (branch : BranchState) (known : KnownState) (part : List Bool) (words : WordsState) : Type 0 where
+pub record Takes (n : ℕ) (old_branch : BranchState) (old_known : KnownState) (old_part : List Bool)
+    (old_words : WordsState) (branch : BranchState) (known : KnownState) (part : List Bool) (words : WordsState) : Type
+    0 where
   pub wait : branch ≡ record old_branch { wait = drop n old_branch.wait }
   pub known_more : known ≡ record old_known { waiting = old_known.waiting ++ take n old_branch.wait }
   pub few : length part < 8
   pub all : words.all ≡ old_words.all
-  pub bits : (bits : List Bool) (done from limit : ℕ) → HasBits old_part old_words bits done from limit → HasBits part words (bits ++ take n old_branch.wait) done from limit
+  pub bits : (bits : List Bool) (done from limit : ℕ) → HasBits old_part old_words bits done from limit
+      → HasBits part words (bits ++ take n old_branch.wait) done from limit
 
 -- with n more bits fewer than 24 words wait to be decoded
 pub record HasRoom (part : List Bool) (words : WordsState) (n : ℕ) : Type 0 where

@@ -17,7 +17,8 @@ use Rattle.measure_stream.specs.Reports.{AreCounted}
 
 -- In super-frame j the meter of a stream matches the costs received by its decoder, the bits given and the reports. No
 -- bit and no word is pending. The words from number `from` on are those of the super-frame, up to its limit.
-pub record Stands (moment : Moment) (x : StreamMeter) (s : Settings) (σ : Stream) (j from : ℕ) (c : List CostPair) (bits : List Bool) (reports : List ℕ) : Type 0 where
+pub record Stands (moment : Moment) (x : StreamMeter) (s : Settings) (σ : Stream) (j from : ℕ) (c : List CostPair)
+    (bits : List Bool) (reports : List ℕ) : Type 0 where
   pub has_given : HasGiven moment x.branch.decoder (start_of s.start) c bits reports
   pub loaded : x.branch.loaded ≡ []
   pub none : x.branch.wait ≡ []
@@ -72,7 +73,8 @@ pub record Gave (old new : StreamMeter) : Type 0 where
 
 -- a meter after more costs and reports: its decoder gave more bits, which are known, and the words that they complete
 -- are counted
-pub record WentOn (moment : Moment) (old new : StreamMeter) (s : Settings) (σ : Stream) (j from : ℕ) (c : List CostPair) (bits : List Bool) (reports : List ℕ) : Type 0 where
+pub record WentOn (moment : Moment) (old new : StreamMeter) (s : Settings) (σ : Stream) (j from : ℕ) (c : List CostPair)
+    (bits : List Bool) (reports : List ℕ) : Type 0 where
   pub more : List Bool
   pub known : new.known ≡ record old.known { waiting = old.known.waiting ++ more }
   pub stands : Stands moment new s σ j from c (bits ++ more) reports

@@ -19,7 +19,8 @@ pub fn few()
     words();
 }
 
-/// With the bits of a symbol more there is room for the known bits, if three symbols at most were not compared, and also at the end.
+/// With the bits of a symbol more there is room for the known bits, if three symbols at most were not compared, and
+/// also at the end.
 pub fn room()
     ensures symbol { RoomForSymbol }
     ensures last { RoomAtEnd }

@@ -5,16 +5,17 @@ ghost use Rattle.measure_words.specs.Counted.{Measures};
 ghost use Rattle.measure_stream.specs.Passing.{HasBits, HasRoom, Takes};
 
 use bit_pack::BitWord;
+use inner_receiver::StreamBranch;
 use measure_known_bits::KnownBits;
 use measure_words::MeasuredWords;
-use inner_receiver::StreamBranch;
 
 /// Puts a byte to the words.
 fn put_byte(words: &mut MeasuredWords, byte: u8)
     requires room { length words.old.slots < 24 }
     ensures small { byte < 256 }
     ensures all { words.new.all ≡ words.old.all }
-    ensures measures { (bytes : List ℕ) (done from limit : ℕ) → Measures words.old bytes done from limit → Measures words.new (bytes ++ byte ∷ []) done from limit }
+    ensures measures { (bytes : List ℕ) (done from limit : ℕ) → Measures words.old bytes done from limit
+        → Measures words.new (bytes ++ byte ∷ []) done from limit }
 {
     words.put_byte(byte);
 }
@@ -25,7 +26,8 @@ fn give_byte(part: &mut BitWord, words: &mut MeasuredWords)
     requires room { length words.old.slots < 24 }
     ensures few { length part.new < 8 }
     ensures all { words.new.all ≡ words.old.all }
-    ensures bits { (bits : List Bool) (done from limit : ℕ) → HasBits part.old words.old bits done from limit → HasBits part.new words.new bits done from limit }
+    ensures bits { (bits : List Bool) (done from limit : ℕ) → HasBits part.old words.old bits done from limit
+        → HasBits part.new words.new bits done from limit }
 {
     match part.take_byte() {
         Some(byte) => put_byte(words, byte),
@@ -40,7 +42,8 @@ fn put_bits(part: &mut BitWord, words: &mut MeasuredWords, word: u16, count: u8)
     requires room { length words.old.slots < 24 }
     ensures few { length part.new < 8 }
     ensures all { words.new.all ≡ words.old.all }
-    ensures bits { (bits : List Bool) (done from limit : ℕ) → HasBits part.old words.old bits done from limit → HasBits part.new words.new (bits ++ spelled count word) done from limit }
+    ensures bits { (bits : List Bool) (done from limit : ℕ) → HasBits part.old words.old bits done from limit
+        → HasBits part.new words.new (bits ++ spelled count word) done from limit }
 {
     part.push_bits(word, count);
     give_byte(part, words);
@@ -138,7 +141,8 @@ pub(crate) fn pass_bits(
     requires few { length part.old < 8 }
     requires room { HasRoom part.old words.old (length branch.old.wait) }
     ensures slots { length words.new.slots < 24 }
-    ensures takes { Takes (length branch.old.wait) branch.old known.old part.old words.old branch.new known.new part.new words.new }
+    ensures takes { Takes (length branch.old.wait) branch.old known.old part.old words.old branch.new known.new part.new
+        words.new }
 {
     let count = branch.waiting();
     pass_bytes(branch, known, part, words, count / 8);

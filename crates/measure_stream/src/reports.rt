@@ -49,7 +49,8 @@ impl ReportCounts {
         requires number { number ≤ 16 }
         requires few { AreFew self.old (2 ^ 60) }
         ensures few { (n : ℕ) → AreFew self.old n → AreFew self.new (n + 16) }
-        ensures counted { (s : AnySettings) (σ : AnyStream) (j before after : ℕ) (reports more : List ℕ) → AreCounted self.old s σ j reports → length more ≡ number → All (λ at. (before < at) × (at ≤ after)) more
+        ensures counted { (s : AnySettings) (σ : AnyStream) (j before after : ℕ) (reports more : List ℕ)
+            → AreCounted self.old s σ j reports → length more ≡ number → All (λ at. (before < at) × (at ≤ after)) more
             → LieIn within s σ j before after → AreCounted self.new s σ j (reports ++ more) }
     {
         self.all += number;
@@ -59,7 +60,9 @@ impl ReportCounts {
     /// Passes on to the next super-frame: the reports that were counted after the current one are its first ones.
     pub fn advance(&mut self)
         ensures few { (n : ℕ) → AreFew self.old n → AreFew self.new n }
-        ensures counted { (s : AnySettings) (σ : AnyStream) (j : ℕ) (reports : List ℕ) → AreCounted self.old s σ j reports → All (λ at. at ≤ steps_before s σ (272 * (j + 2))) reports → AreCounted self.new s σ (j + 1) reports }
+        ensures counted { (s : AnySettings) (σ : AnyStream) (j : ℕ) (reports : List ℕ)
+            → AreCounted self.old s σ j reports → All (λ at. at ≤ steps_before s σ (272 * (j + 2))) reports
+            → AreCounted self.new s σ (j + 1) reports }
     {
         self.current = self.later;
         self.later = 0;

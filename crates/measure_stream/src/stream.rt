@@ -1,5 +1,6 @@
 // The measuring of one stream.
-ghost use Rattle.std.specs.Prelude.{◌≡◌, ◌+◌, ◌-◌, ◌*◌, ◌<◌, ◌≤◌, ◌^◌, ◌++◌, [], ℕ, List, Bool, true, All, IfOk, min, length};
+ghost use Rattle.std.specs.Prelude.{◌≡◌, ◌+◌, ◌-◌, ◌*◌, ◌<◌, ◌≤◌, ◌^◌, ◌++◌, [], ℕ, List, Bool, true, All, IfOk, min};
+ghost use Rattle.std.specs.Prelude.{length};
 ghost use Rattle.code_paths.specs.declared.costs.CostPair.{CostPair as Pair};
 ghost use Rattle.inner_decoder.specs.Events.{ats};
 ghost use Rattle.inner_decoder.specs.Running.{BranchState};
@@ -20,6 +21,7 @@ ghost use Rattle.measure_stream.specs.Standing.{Stands, MayGive, IsReady, HasRun
 use crate::passing::pass_bits;
 use crate::reports::ReportCounts;
 use bit_pack::BitWord;
+use inner_receiver::{StreamBranch, begin, end};
 use measure_known_bits::KnownBits;
 use measure_report::{BitSums, StreamSums};
 use measure_words::MeasuredWords;
@@ -27,7 +29,6 @@ use mode_set::{Settings, Stream};
 use rx_report::StreamCounts;
 use std::alloc::{AllocError, Global};
 use std::thread::Threads;
-use inner_receiver::{StreamBranch, begin, end};
 use word_workers::{Gate, OpenGate};
 
 /// The words of the start-up.
@@ -69,7 +70,8 @@ fn words_of(settings: &Settings, stream: Stream, super_frame: u32) -> u64
 }
 
 impl StreamMeter {
-    /// The meter of a stream of which nothing was received, in the first super-frame. It takes all its memory; the only error is
+    /// The meter of a stream of which nothing was received, in the first super-frame. It takes all its memory; the only
+    /// error is
     /// want of it.
     pub fn new(alloc: Global, settings: &Settings, stream: Stream) -> Result<Self, AllocError>
         ensures ready { IfOk result (λ x. IsReady x) }
@@ -100,7 +102,10 @@ impl StreamMeter {
         requires few { self.old.words.all.words ≤ 2 ^ 49 }
         ensures few { self.new.words.all.words ≤ self.old.words.all.words + 24 }
         ensures branch { self.new.branch ≡ record self.old.branch { wait = [] } }
-        ensures known { self.new.known ≡ record self.old.known { waiting = self.old.known.waiting ++ self.old.branch.wait } }
+        ensures known { self.new.known ≡ record self.old.known {
+          waiting = self.old.known.waiting ++
+              self.old.branch.wait;
+        } }
         ensures before { self.new.words_before ≡ self.old.words_before }
         ensures reports { self.new.reports ≡ self.old.reports }
         ensures gave { Gave self.old self.new }
@@ -121,14 +126,18 @@ impl StreamMeter {
         requires few { AreFew self.old.reports (2 ^ 60) }
         ensures few { (n : ℕ) → AreFew self.old.reports n → AreFew self.new.reports (n + 16) }
         ensures rest { self.new ≡ record self.old { reports = self.new.reports } }
-        ensures counted { (s : AnySettings) (σ : AnyStream) (j before after : ℕ) (reports : List ℕ) → AreCounted self.old.reports s σ j reports → All (λ at. (before < at) × (at ≤ after)) (ats self.old.branch.events)
-            → LieIn within s σ j before after → AreCounted self.new.reports s σ j (reports ++ ats self.old.branch.events) }
+        ensures counted { (s : AnySettings) (σ : AnyStream) (j before after : ℕ) (reports : List ℕ)
+            → AreCounted self.old.reports s σ j reports → All (λ at. (before < at) × (at ≤ after)) (ats
+            self.old.branch.events)
+            → LieIn within s σ j before after → AreCounted self.new.reports s σ j (reports ++ ats
+            self.old.branch.events) }
     {
         let reports = self.branch.events();
         self.reports.count(reports.len() as u64, within);
     }
 
-    /// Gives on what the decoder gave in a symbol, which is of the current super-frame or after it: hands on the bits, decodes the
+    /// Gives on what the decoder gave in a symbol, which is of the current super-frame or after it: hands on the bits,
+    /// decodes the
     /// words that are then whole, and counts the reports.
     ///
     /// The decoder has run the symbol. With its bits at most 127,008 wait.
@@ -147,13 +156,18 @@ impl StreamMeter {
         requires reports { AreFew self.old.reports (2 ^ 60) }
         ensures ready { IsReady self.new }
         ensures branch { self.new.branch ≡ record self.old.branch { wait = [] } }
-        ensures known { self.new.known ≡ record self.old.known { waiting = self.old.known.waiting ++ self.old.branch.wait } }
+        ensures known { self.new.known ≡ record self.old.known {
+          waiting = self.old.known.waiting ++
+              self.old.branch.wait;
+        } }
         ensures words { self.new.words.all.words ≤ self.old.words.all.words + 24 }
         ensures before { self.new.words_before ≡ self.old.words_before }
         ensures reports { (n : ℕ) → AreFew self.old.reports n → AreFew self.new.reports (n + 16) }
         ensures fed { (before : BranchState) (pairs : List Pair) → HasTaken pairs before self.old.branch
-            → (s : AnySettings) (σ : AnyStream) (j from : ℕ) (c : List Pair) (bits : List Bool) (reports : List ℕ) → Stands so_far (record self.old { branch = before }) s σ j from c bits reports
-            → LieIn within s σ j (length c) (length c + length pairs) → WentOn so_far self.old self.new s σ j from (c ++ pairs) bits (reports ++ ats self.old.branch.events) }
+            → (s : AnySettings) (σ : AnyStream) (j from : ℕ) (c : List Pair) (bits : List Bool) (reports : List ℕ)
+            → Stands so_far (record self.old { branch = before }) s σ j from c bits reports
+            → LieIn within s σ j (length c) (length c + length pairs)
+            → WentOn so_far self.old self.new s σ j from (c ++ pairs) bits (reports ++ ats self.old.branch.events) }
     {
         reception::laws::events();
         self.give(rt, gate, workers);
@@ -174,7 +188,8 @@ impl StreamMeter {
         ensures words { self.new.words.all.words ≤ self.old.words.all.words + 24 }
         ensures before { self.new.words_before ≡ self.old.words_before }
         ensures reports { self.new.reports ≡ self.old.reports }
-        ensures finished { (s : AnySettings) (σ : AnyStream) (j from : ℕ) (c : List Pair) (bits : List Bool) (reports : List ℕ) → Stands so_far self.old s σ j from c bits reports
+        ensures finished { (s : AnySettings) (σ : AnyStream) (j from : ℕ) (c : List Pair) (bits : List Bool)
+            (reports : List ℕ) → Stands so_far self.old s σ j from c bits reports
             → WentOn at_end self.old self.new s σ j from c bits reports }
     {
         end(&mut self.branch);
@@ -189,9 +204,11 @@ impl StreamMeter {
         ensures words { self.new.words.all ≡ self.old.words.all }
         ensures before { self.new.words_before ≡ self.old.words_before + words_in settings.now stream next }
         ensures reports { (n : ℕ) → AreFew self.old.reports n → AreFew self.new.reports n }
-        ensures advanced { (moment : Moment) (j from : ℕ) (c : List Pair) (bits : List Bool) (reports : List ℕ) → next ≡ j + 1 → Stands moment self.old settings.now stream j from c bits reports
+        ensures advanced { (moment : Moment) (j from : ℕ) (c : List Pair) (bits : List Bool) (reports : List ℕ) → next
+            ≡ j + 1 → Stands moment self.old settings.now stream j from c bits reports
             → length c ≤ steps_before settings.now stream (272 * (j + 2))
-            → Stands moment self.new settings.now stream (j + 1) (min (word_count (bytes_of bits)) (words_before settings.now stream (j + 1) - 11)) c bits reports }
+            → Stands moment self.new settings.now stream (j + 1)
+            (min (word_count (bytes_of bits)) (words_before settings.now stream (j + 1) - 11)) c bits reports }
     {
         symbol_parameters::laws::words();
         reception::laws::events();
@@ -203,7 +220,9 @@ impl StreamMeter {
 
     /// The counts of all words, and of all reports.
     pub fn counts(&self) -> StreamCounts
-        ensures totals { (moment : Moment) (s : AnySettings) (σ : AnyStream) (j from : ℕ) (c : List Pair) (bits : List Bool) (reports : List ℕ) → Stands moment self.now s σ j from c bits reports → AreTotals bits reports result }
+        ensures totals { (moment : Moment) (s : AnySettings) (σ : AnyStream) (j from : ℕ) (c : List Pair)
+            (bits : List Bool) (reports : List ℕ) → Stands moment self.now s σ j from c bits reports
+            → AreTotals bits reports result }
     {
         outer_chain::laws::bits();
         let words = self.words.all();
@@ -219,8 +238,12 @@ impl StreamMeter {
 
     /// The sums of the stream in the current super-frame, with those of its bits.
     pub fn sums(&self, bits: &BitSums) -> StreamSums
-        ensures sums { (moment : Moment) (s : AnySettings) (bytes : List ℕ) (known : Knowns) (σ : AnyStream) (j from : ℕ) (given : List Bool) (reports : List ℕ) → Stands moment self.now s σ j from (costs s bytes σ) given reports
-            → known_with known σ j ≡ given → told_before s known σ j ≡ from → bits.now.bits ≡ over_compared s bytes known j (λ x. bits_in x σ) → bits.now.wrong ≡ over_compared s bytes known j (λ x. wrong_in x σ)
+        ensures sums { (moment : Moment) (s : AnySettings) (bytes : List ℕ) (known : Knowns) (σ : AnyStream)
+            (j from : ℕ) (given : List Bool) (reports : List ℕ)
+            → Stands moment self.now s σ j from (costs s bytes σ) given reports
+            → known_with known σ j ≡ given → told_before s known σ j ≡ from → bits.now.bits
+            ≡ over_compared s bytes known j (λ x. bits_in x σ) → bits.now.wrong
+            ≡ over_compared s bytes known j (λ x. wrong_in x σ)
             → AreStreamSums s bytes known j σ result }
     {
         outer_chain::laws::bits();

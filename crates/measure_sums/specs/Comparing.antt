@@ -1,6 +1,7 @@
 -- The sums of a symbol: its received cells compared with those of its remade labels (the measurements are those of ETSI
 -- TR 101 290, 9.15 to 9.18; which cells count is this project's profile).
-use Rattle.std.specs.Prelude.{◌≡◌, ℕ, ◌+◌, ◌^◌, ◌<◌, nat_lt, ◌&&◌, not, if◌then◌else◌, Bool, true, false, List, sum_by, count_by, slice_index, get_or, nat_abs}
+use Rattle.std.specs.Prelude.{◌≡◌, ℕ, ◌+◌, ◌^◌, ◌<◌, nat_lt, ◌&&◌, not, if◌then◌else◌, Bool, true, false, List, sum_by}
+use Rattle.std.specs.Prelude.{count_by, slice_index, get_or, nat_abs}
 use Rattle.std.specs.Bool.{beq}
 use Rattle.spec_words.specs.Words.{numbers}
 use Rattle.mode_set.specs.StreamTable.{payload, label_bits}
@@ -110,7 +111,15 @@ abbrev pub bit_sums : Comparison → Stream → BitSums
 bit_sums x σ = record { bits = bits_in x σ; wrong = wrong_in x σ }
 
 abbrev pub symbol_sums : Comparison → SymbolSums
-symbol_sums x = record { cells = cells_in x; muted = muted_in x; power = power_in x; error = error_in x; hp = bit_sums x Hp; lp = bit_sums x Lp }
+symbol_sums x = record {
+  cells = cells_in x;
+  muted = muted_in x;
+  power = power_in x;
+  error = error_in x;
+  hp
+      = bit_sums x Hp;
+  lp = bit_sums x Lp;
+}
 
 -- two symbols that differ only in how their labels are written
 pub record AreAlike (x y : Comparison) : Type 0 where

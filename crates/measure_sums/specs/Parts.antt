@@ -7,11 +7,20 @@ use Rattle.mode_set.specs.declared.modes.Stream.TheVariants.{Hp, Lp}
 use Rattle.mode_set.specs.declared.settings.Settings.{Settings}
 use Rattle.qam_map.specs.declared.cell.Cell.{Cell}
 use Rattle.measure_report.specs.declared.sums.SymbolSums.{SymbolSums}
-use Rattle.measure_sums.specs.Comparing.{Comparison, counts, carries, is_wrong, label_places, received, remade, power_of, squared_distance}
+use Rattle.measure_sums.specs.Comparing.{Comparison, counts, carries, is_wrong, label_places, received, remade}
+use Rattle.measure_sums.specs.Comparing.{power_of, squared_distance}
 
 -- sums by their fields
 abbrev pub all : ℕ → ℕ → ℕ → ℕ → ℕ → ℕ → ℕ → ℕ → SymbolSums
-all c m p e hb hw lb lw = record { cells = c; muted = m; power = p; error = e; hp = record { bits = hb; wrong = hw }; lp = record { bits = lb; wrong = lw } }
+all c m p e hb hw lb lw = record {
+  cells = c;
+  muted = m;
+  power = p;
+  error = e;
+  hp = record { bits = hb; wrong = hw };
+  lp
+      = record { bits = lb; wrong = lw };
+}
 
 -- what place q adds to each of them
 abbrev pub bits_at : Comparison → Stream → ℕ → ℕ
@@ -37,11 +46,20 @@ abbrev pub over : (ℕ → ℕ) → ℕ → ℕ
 over f n = sum_by f (numbers n)
 
 abbrev pub sums_to : Comparison → ℕ → SymbolSums
-sums_to x n = all (over (cell_at x) n) (over (mute_at x) n) (over (power_at x) n) (over (error_at x) n) (over (bits_at x Hp) n) (over (wrong_at x Hp) n) (over (bits_at x Lp) n) (over (wrong_at x Lp) n)
+sums_to x n = all (over (cell_at x) n) (over (mute_at x) n) (over (power_at x) n) (over (error_at x) n)
+    (over (bits_at x Hp) n) (over (wrong_at x Hp) n) (over (bits_at x Lp) n) (over (wrong_at x Lp) n)
 
 abbrev pub place_of : Comparison → ℕ → SymbolSums
-place_of x q = all (cell_at x q) (mute_at x q) (power_at x q) (error_at x q) (bits_at x Hp q) (wrong_at x Hp q) (bits_at x Lp q) (wrong_at x Lp q)
+place_of x q = all (cell_at x q) (mute_at x q) (power_at x q) (error_at x q) (bits_at x Hp q) (wrong_at x Hp q)
+    (bits_at x Lp q) (wrong_at x Lp q)
 
 -- a symbol beside labels that are kept as numbers
 abbrev pub symbol_of : Settings → List Cell → List ℕ → ℕ → List ℕ → Comparison
-symbol_of s cells weights l labels = record { settings = s; cells = cells; weights = weights; symbol = l; labels = λ q. is_set (slice_index labels q) }
+symbol_of s cells weights l labels = record {
+  settings = s;
+  cells = cells;
+  weights = weights;
+  symbol = l;
+  labels = λ q.
+      is_set (slice_index labels q);
+}

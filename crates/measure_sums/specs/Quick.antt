@@ -26,14 +26,23 @@ pub record AreSent (s : Shape) (h : Hierarchy) (n : ℕ) (list : List Sent) : Ty
 
 -- a cell whose squared distance from the point of a label is less than this is decided as that label
 abbrev pub IsSafe : Shape → Hierarchy → ℕ → Type 0
-IsSafe s h safe = (label e : ℕ) (c : Cell) → squared_distance c (map_cell s h (is_set label)) < safe → e < label_bits s → hard_bit s h c e ≡ is_set label e
+IsSafe s h safe = (label e : ℕ) (c : Cell) → squared_distance c (map_cell s h (is_set label)) < safe → e < label_bits s
+    → hard_bit s h c e ≡ is_set label e
 
 -- what a place adds whose cell counts and has no wrong bit
 abbrev pub right_bits : ℕ → BitSums
 right_bits bits = record { bits = bits; wrong = 0 }
 
 abbrev pub right_sums : Shape → Hierarchy → ℕ → ℕ → SymbolSums
-right_sums s h power error = record { cells = 1; muted = 0; power = power; error = error; hp = right_bits (bits_of_label s h Hp); lp = right_bits (bits_of_label s h Lp) }
+right_sums s h power error = record {
+  cells = 1;
+  muted = 0;
+  power = power;
+  error = error;
+  hp = right_bits
+      (bits_of_label s h Hp);
+  lp = right_bits (bits_of_label s h Lp);
+}
 
 -- what a table of points keeps
 pub record IsPointTable (s : Shape) (h : Hierarchy) (sent : List Sent) (hp_bits lp_bits safe : ℕ) : Type 0 where

@@ -1,5 +1,6 @@
 -- The tables of the code, what one payload carrier adds, and bounds of the sums.
-use Rattle.std.specs.Prelude.{◌≡◌, ℕ, ◌+◌, ◌*◌, ◌^◌, ◌<◌, ◌≤◌, nat_lt, ◌&&◌, not, if◌then◌else◌, Bool, false, List, length, slice_index_or, count_by}
+use Rattle.std.specs.Prelude.{◌≡◌, ℕ, ◌+◌, ◌*◌, ◌^◌, ◌<◌, ◌≤◌, nat_lt, ◌&&◌, not, if◌then◌else◌, Bool, false, List}
+use Rattle.std.specs.Prelude.{length, slice_index_or, count_by}
 use Rattle.std.specs.Bool.{beq}
 use Rattle.spec_words.specs.Words.{numbers}
 use Rattle.mode_set.specs.StreamTable.{label_bits}
@@ -55,13 +56,15 @@ bits_of_label s h σ = count_by (λ e. is_same (stream_at h e) σ) (numbers (lab
 
 -- the number of these that differ in two lists of bits
 abbrev pub wrong_among : Shape → Hierarchy → Stream → List Bool → List Bool → ℕ
-wrong_among s h σ hard sent = count_by (λ e. is_same (stream_at h e) σ && not (beq (slice_index_or hard e false) (slice_index_or sent e false))) (numbers (label_bits s))
+wrong_among s h σ hard sent = count_by (λ e. is_same (stream_at h e) σ && not
+    (beq (slice_index_or hard e false) (slice_index_or sent e false))) (numbers (label_bits s))
 
 -- the bits of a stream that one payload carrier adds
 abbrev pub counted_bits : Shape → Hierarchy → ℕ → Cell → Stream → BitSums
 counted_bits s h label c σ = record {
   bits = bits_of_label s h σ;
-  wrong = count_by (λ e. is_same (stream_at h e) σ && not (beq (hard_bit s h c e) (is_set label e))) (numbers (label_bits s));
+  wrong = count_by (λ e. is_same (stream_at h e) σ && not (beq (hard_bit s h c e) (is_set label e)))
+      (numbers (label_bits s));
 }
 
 -- what a carrier adds if its received cell c counts
@@ -92,7 +95,8 @@ abbrev pub place_adds : Shape → Hierarchy → ℕ → Cell → ℕ → SymbolS
 place_adds s h label c weight = if nat_lt 0 weight then counted_sums s h label c else muted_sums
 
 -- the invariant of a constellation
-pub record IsConstellation (s : Shape) (h : Hierarchy) (decision : Shape × Hierarchy) (points : List Cell) (hp_bits lp_bits : ℕ) : Type 0 where
+pub record IsConstellation (s : Shape) (h : Hierarchy) (decision : Shape × Hierarchy) (points : List Cell)
+    (hp_bits lp_bits : ℕ) : Type 0 where
   pub decision_is : decision ≡ (s, h)
   pub points_are : ArePoints s h (2 ^ label_bits s) points
   pub hp_are : hp_bits ≡ bits_of_label s h Hp

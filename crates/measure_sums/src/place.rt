@@ -7,7 +7,8 @@ ghost use Rattle.bit_interleave.specs.Place.{stream_at};
 ghost use Rattle.qam_map.specs.Points.{distance};
 ghost use Rattle.hard_decision.specs.Hard.{hard_bit};
 ghost use Rattle.measure_sums.specs.Comparing.{is_same, power_of, squared_distance};
-ghost use Rattle.measure_sums.specs.Tables.{AreLittle, bits_of_label, counted_sums, muted_sums, place_adds, wrong_among};
+ghost use Rattle.measure_sums.specs.Tables.{AreLittle, bits_of_label, counted_sums, muted_sums, place_adds};
+ghost use Rattle.measure_sums.specs.Tables.{wrong_among};
 
 use crate::tables::points_of;
 use hard_decision::HardDecision;

@@ -25,10 +25,19 @@ pub fn sum_symbol(
 ) -> SymbolSums
     requires symbol { l < 68 }
     requires count { length labels.now ≡ payload settings.now.mode }
-    requires small { (q : ℕ) → q < payload settings.now.mode → slice_index labels.now q < 2 ^ label_bits settings.now.shape }
+    requires small { (q : ℕ) → q < payload settings.now.mode
+        → slice_index labels.now q < 2 ^ label_bits settings.now.shape }
     requires cells { length cells.now ≡ carriers settings.now.mode }
     requires weights { length weights.now ≡ carriers settings.now.mode }
-    ensures sums { result ≡ symbol_sums (record { settings = settings.now; cells = cells.now; weights = weights.now; symbol = l; labels = λ q. is_set (slice_index labels.now q) }) }
+    ensures sums { result ≡ symbol_sums
+        (record {
+          settings = settings.now;
+          cells = cells.now;
+          weights = weights.now;
+          symbol = l;
+          labels
+              = λ q. is_set (slice_index labels.now q);
+        }) }
     ensures little { AreLittle result (payload settings.now.mode) }
 {
     let constellation = Constellation::new(settings.shape, settings.hierarchy);

@@ -50,7 +50,8 @@ fn sum_period(
     requires weights { 1704 * period + 1705 ≤ length weights.now }
     requires little { AreLittle sums.old (1512 * period) }
     ensures little { AreLittle sums.new (1512 * period + 1512) }
-    ensures sums { (s : AnySettings) → table.now ≡ (s.shape, s.hierarchy) → 1512 * period + 1512 ≤ payload s.mode → sums.old ≡ sums_to (symbol_of s cells.now weights.now l labels.now) (1512 * period)
+    ensures sums { (s : AnySettings) → table.now ≡ (s.shape, s.hierarchy) → 1512 * period + 1512 ≤ payload s.mode
+        → sums.old ≡ sums_to (symbol_of s cells.now weights.now l labels.now) (1512 * period)
         → sums.new ≡ sums_to (symbol_of s cells.now weights.now l labels.now) (1512 * period + 1512) }
 {
     for i in 0..PAYLOAD {
@@ -72,10 +73,19 @@ pub fn sum_symbol(
 ) -> SymbolSums
     requires symbol { l < 68 }
     requires count { length labels.now ≡ payload settings.now.mode }
-    requires small { (q : ℕ) → q < payload settings.now.mode → slice_index labels.now q < 2 ^ label_bits settings.now.shape }
+    requires small { (q : ℕ) → q < payload settings.now.mode
+        → slice_index labels.now q < 2 ^ label_bits settings.now.shape }
     requires cells { length cells.now ≡ carriers settings.now.mode }
     requires weights { length weights.now ≡ carriers settings.now.mode }
-    ensures sums { result ≡ symbol_sums (record { settings = settings.now; cells = cells.now; weights = weights.now; symbol = l; labels = λ q. is_set (slice_index labels.now q) }) }
+    ensures sums { result ≡ symbol_sums
+        (record {
+          settings = settings.now;
+          cells = cells.now;
+          weights = weights.now;
+          symbol = l;
+          labels
+              = λ q. is_set (slice_index labels.now q);
+        }) }
     ensures little { AreLittle result (payload settings.now.mode) }
 {
     let table = PointTable::new(settings.shape, settings.hierarchy);

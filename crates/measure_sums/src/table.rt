@@ -14,7 +14,8 @@ use mode_set::{Hierarchy, Shape, Stream};
 use qam_map::Cell;
 use std::marker::Model;
 
-/// What is sent for each label, and how near to its point a received cell has no wrong bit. It is seen as the shape and the hierarchy.
+/// What is sent for each label, and how near to its point a received cell has no wrong bit. It is seen as the shape and
+/// the hierarchy.
 ///
 /// Cells farther away are left to the hard decisions.
 #[derive(Drop)]

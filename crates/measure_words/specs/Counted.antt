@@ -12,7 +12,8 @@ use Rattle.measure_words.specs.Seen.{WordsState}
 
 -- The first `done` words of these bytes are counted: all of them; those from number `from` on and below `limit`; and
 -- those from `limit` on.
-pub record HasCounted (outer : Receiver) (all current later : WordSums) (bytes : List ℕ) (done from limit : ℕ) : Type 0 where
+pub record HasCounted (outer : Receiver) (all current later : WordSums) (bytes : List ℕ) (done from limit : ℕ) : Type
+    0 where
   pub receives : Receives outer bytes
   pub within : done ≤ word_count bytes
   pub near : ℕ → Option (List ℕ)
@@ -25,7 +26,8 @@ pub record HasCounted (outer : Receiver) (all current later : WordSums) (bytes :
 
 -- the pending words are those from number `done` on
 abbrev pub AreWords : List ℕ → ℕ → List WordSlot → Type 0
-AreWords bytes done slots = (i : ℕ) (d : WordSlot) → i < length slots → (slice_index_or slots i d).word ≡ word_at bytes (done + i)
+AreWords bytes done slots = (i : ℕ) (d : WordSlot) → i < length slots → (slice_index_or slots i d).word
+    ≡ word_at bytes (done + i)
 
 -- all words of these bytes are counted or pending
 pub record Measures (x : WordsState) (bytes : List ℕ) (done from limit : ℕ) : Type 0 where
@@ -35,13 +37,16 @@ pub record Measures (x : WordsState) (bytes : List ℕ) (done from limit : ℕ) 
 
 -- these words, decoded
 abbrev pub AreDecoded : List ℕ → ℕ → List WordSlot → Type 0
-AreDecoded bytes done slots = (i : ℕ) (d : WordSlot) → i < length slots → Decoded (word_at bytes (done + i)) (slice_index_or slots i d).word (slice_index_or slots i d).outcome
+AreDecoded bytes done slots = (i : ℕ) (d : WordSlot) → i < length slots
+    → Decoded (word_at bytes (done + i)) (slice_index_or slots i d).word (slice_index_or slots i d).outcome
 
 -- the words as received
 abbrev pub AreReceived : List ℕ → ℕ → List (List ℕ) → Type 0
-AreReceived bytes done received = (i : ℕ) (d : List ℕ) → i < length received → slice_index_or received i d ≡ word_at bytes (done + i)
+AreReceived bytes done received = (i : ℕ) (d : List ℕ) → i < length received → slice_index_or received i d
+    ≡ word_at bytes (done + i)
 
 -- each word is decoded
 pub record DecodesAll (old new : List WordSlot) : Type 0 where
   pub long : length new ≡ length old
-  pub each : (i : ℕ) (d : WordSlot) → i < length old → Decoded (slice_index_or old i d).word (slice_index_or new i d).word (slice_index_or new i d).outcome
+  pub each : (i : ℕ) (d : WordSlot) → i < length old → Decoded (slice_index_or old i d).word (slice_index_or new i
+      d).word (slice_index_or new i d).outcome

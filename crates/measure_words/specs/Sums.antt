@@ -1,5 +1,6 @@
 -- The counts of received words (the words are those of EN 300 744, 4.3.2; the counts are this project's profile).
-use Rattle.std.specs.Prelude.{ℕ, suc, ◌+◌, ◌*◌, ◌≤◌, Bool, not, cond, ◌&&◌, List, Option, length, count_by, sum_by, slice_index}
+use Rattle.std.specs.Prelude.{ℕ, suc, ◌+◌, ◌*◌, ◌≤◌, Bool, not, cond, ◌&&◌, List, Option, length, count_by, sum_by}
+use Rattle.std.specs.Prelude.{slice_index}
 use Rattle.std.specs.Bool.{beq}
 use Rattle.spec_words.specs.Bits.{is_set}
 use Rattle.spec_words.specs.Words.{numbers}

@@ -1,5 +1,6 @@
 // From the bytes of a stream to the counts of its words.
-ghost use Rattle.std.specs.Prelude.{◌≡◌, ◌+◌, ◌<◌, ◌≤◌, ◌^◌, ◌∷◌, ◌++◌, [], ℕ, List, IfOk, map, min, length, vec_len, vec_capacity};
+ghost use Rattle.std.specs.Prelude.{◌≡◌, ◌+◌, ◌<◌, ◌≤◌, ◌^◌, ◌∷◌, ◌++◌, [], ℕ, List, IfOk, map, min, length, vec_len};
+ghost use Rattle.std.specs.Prelude.{vec_capacity};
 ghost use Rattle.rs204.specs.Decoded.{Decoded};
 ghost use Rattle.outer_chain.specs.Words.{word_at, word_count};
 ghost use Rattle.outer_chain.specs.declared.slot.WordSlot.{WordSlot as Slot};
@@ -18,7 +19,8 @@ use word_workers::{Gate, decode_all};
 /// The most words that wait to be decoded.
 const WORDS: usize = 24;
 
-/// Takes the interleaved bytes of a stream, and counts its words: all of them, those of the current super-frame, and those after it.
+/// Takes the interleaved bytes of a stream, and counts its words: all of them, those of the current super-frame, and
+/// those after it.
 ///
 /// It stands for the bytes that it has had. No call but `new` takes memory or is refused.
 #[derive(Drop)]
@@ -39,9 +41,17 @@ impl Model for MeasuredWords {
 
     ghost Value = { WordsState };
 
-    ghost view = { λ x. record { outer = x.outer; slots = x.slots.items; all = x.all; current = x.current; later = x.later } };
+    ghost view = { λ x. record {
+      outer = x.outer;
+      slots = x.slots.items;
+      all = x.all;
+      current = x.current;
+      later
+          = x.later;
+    } };
 
-    ghost invariant = { λ x. (24 ≤ vec_capacity x.slots) × (24 ≤ vec_capacity x.received) × AreFew x.all x.all.words × AreFew x.current x.all.words × AreFew x.later x.all.words };
+    ghost invariant = { λ x. (24 ≤ vec_capacity x.slots) × (24 ≤ vec_capacity x.received) × AreFew x.all x.all.words
+        × AreFew x.current x.all.words × AreFew x.later x.all.words };
 }
 
 /// Keeps the words as they were received.
@@ -82,8 +92,10 @@ fn count_apart(
     requires later { AreFew later.old (2 ^ 50) }
     ensures current { (n : ℕ) → AreFew current.old n → AreFew current.new (n + 1) }
     ensures later { (n : ℕ) → AreFew later.old n → AreFew later.new (n + 1) }
-    ensures below { number < limit → (current.new ≡ counted current.old outcome phased repaired) × (later.new ≡ later.old) }
-    ensures above { limit ≤ number → (current.new ≡ current.old) × (later.new ≡ counted later.old outcome phased repaired) }
+    ensures below { number < limit → (current.new ≡ counted current.old outcome phased repaired)
+        × (later.new ≡ later.old) }
+    ensures above { limit ≤ number → (current.new ≡ current.old)
+        × (later.new ≡ counted later.old outcome phased repaired) }
 {
     if number < limit {
         current.count(outcome, phased, repaired);
@@ -109,8 +121,10 @@ fn count_word(
     ensures current { (n : ℕ) → AreFew current.old n → AreFew current.new (n + 1) }
     ensures later { (n : ℕ) → AreFew later.old n → AreFew later.new (n + 1) }
     ensures words { all.new.words ≡ all.old.words + 1 }
-    ensures counted { (bytes : List ℕ) (done from : ℕ) → HasCounted outer.old all.old current.old later.old bytes done from limit → done < word_count bytes
-        → received.now ≡ word_at bytes done → Decoded (word_at bytes done) slot.now.word slot.now.outcome → HasCounted outer.new all.new current.new later.new bytes (done + 1) from limit }
+    ensures counted { (bytes : List ℕ) (done from : ℕ) → HasCounted outer.old all.old current.old later.old bytes done
+        from limit → done < word_count bytes
+        → received.now ≡ word_at bytes done → Decoded (word_at bytes done) slot.now.word slot.now.outcome
+        → HasCounted outer.new all.new current.new later.new bytes (done + 1) from limit }
 {
     let repaired = bits_apart(received, &slot.word);
     let phased = outer.finish_word(slot).is_some();
@@ -145,8 +159,10 @@ fn count_words(
     ensures current { (n : ℕ) → AreFew current.old n → AreFew current.new (n + length slots.now) }
     ensures later { (n : ℕ) → AreFew later.old n → AreFew later.new (n + length slots.now) }
     ensures words { all.new.words ≡ all.old.words + length slots.now }
-    ensures counted { (bytes : List ℕ) (done from : ℕ) → HasCounted outer.old all.old current.old later.old bytes done from limit → done + length slots.now ≤ word_count bytes
-        → AreReceived bytes done received.now → AreDecoded bytes done slots.now → HasCounted outer.new all.new current.new later.new bytes (done + length slots.now) from limit }
+    ensures counted { (bytes : List ℕ) (done from : ℕ) → HasCounted outer.old all.old current.old later.old bytes done
+        from limit → done + length slots.now ≤ word_count bytes
+        → AreReceived bytes done received.now → AreDecoded bytes done slots.now
+        → HasCounted outer.new all.new current.new later.new bytes (done + length slots.now) from limit }
 {
     for k in 0..slots.len() {
         count_word(outer, &slots[k], &received[k], limit, all, current, later);
@@ -177,13 +193,15 @@ impl MeasuredWords {
     pub fn put_byte(&mut self, byte: u8)
         requires room { length self.old.slots < 24 }
         ensures words { self.new.all ≡ self.old.all }
-        ensures measures { (bytes : List ℕ) (done from limit : ℕ) → Measures self.old bytes done from limit → Measures self.new (bytes ++ byte ∷ []) done from limit }
+        ensures measures { (bytes : List ℕ) (done from limit : ℕ) → Measures self.old bytes done from limit
+            → Measures self.new (bytes ++ byte ∷ []) done from limit }
     {
         outer_chain::laws::growth();
         self.outer.put_byte(byte, &mut self.slots);
     }
 
-    /// Decodes the words that wait, by so many workers, and counts them: those below number `limit` in the current super-frame, the
+    /// Decodes the words that wait, by so many workers, and counts them: those below number `limit` in the current
+    /// super-frame, the
     /// others after it.
     pub fn finish<R: Threads + Sync, G: Gate>(&mut self, rt: &R, gate: &G, workers: u8, limit: u64)
         requires some_worker { 1 ≤ workers }
@@ -192,7 +210,8 @@ impl MeasuredWords {
         requires few { self.old.all.words ≤ 2 ^ 49 }
         ensures none { self.new.slots ≡ [] }
         ensures words { self.new.all.words ≡ self.old.all.words + length self.old.slots }
-        ensures measures { (bytes : List ℕ) (done from : ℕ) → Measures self.old bytes done from limit → Measures self.new bytes (word_count bytes) from limit }
+        ensures measures { (bytes : List ℕ) (done from : ℕ) → Measures self.old bytes done from limit
+            → Measures self.new bytes (word_count bytes) from limit }
     {
         keep(&self.slots, &mut self.received);
         decode(rt, gate, workers, &mut self.slots);
@@ -212,7 +231,8 @@ impl MeasuredWords {
     pub fn advance(&mut self)
         ensures none { self.new.slots ≡ self.old.slots }
         ensures words { self.new.all ≡ self.old.all }
-        ensures measures { (bytes : List ℕ) (done from limit next : ℕ) → Measures self.old bytes done from limit → limit ≤ next → done ≤ next → Measures self.new bytes done (min done limit) next }
+        ensures measures { (bytes : List ℕ) (done from limit next : ℕ) → Measures self.old bytes done from limit
+            → limit ≤ next → done ≤ next → Measures self.new bytes done (min done limit) next }
     {
         self.current = self.later;
         self.later = WordSums::none();

@@ -8,7 +8,8 @@ use Rattle.measurement.specs.Lines.{defined_by, MeasureLive, MeasureFinal}
 
 -- more bytes leave the sums of a defined super-frame
 abbrev pub SumsStay : Type 0
-SumsStay = (s : Settings) (bytes more : List ℕ) (j : ℕ) (f : SuperFrame) → j < defined_by (symbols s bytes) → AreSums s bytes j f → AreSums s (bytes ++ more) j f
+SumsStay = (s : Settings) (bytes more : List ℕ) (j : ℕ) (f : SuperFrame) → j < defined_by (symbols s bytes)
+    → AreSums s bytes j f → AreSums s (bytes ++ more) j f
 
 -- the sums of a super-frame are unique
 abbrev pub OneSums : Type 0
@@ -16,7 +17,9 @@ OneSums = (s : Settings) (bytes : List ℕ) (j : ℕ) (f g : SuperFrame) → Are
 
 -- the lines for bytes are a prefix of those for more bytes, so far and at the end
 abbrev pub LiveBeginsLive : Type 0
-LiveBeginsLive = (s : Settings) (bytes more out longer : List ℕ) → MeasureLive s bytes out → MeasureLive s (bytes ++ more) longer → (rest : List ℕ) × (longer ≡ out ++ rest)
+LiveBeginsLive = (s : Settings) (bytes more out longer : List ℕ) → MeasureLive s bytes out
+    → MeasureLive s (bytes ++ more) longer → (rest : List ℕ) × (longer ≡ out ++ rest)
 
 abbrev pub LiveBeginsFinal : Type 0
-LiveBeginsFinal = (s : Settings) (bytes more out longer : List ℕ) → MeasureLive s bytes out → MeasureFinal s (bytes ++ more) longer → (rest : List ℕ) × (longer ≡ out ++ rest)
+LiveBeginsFinal = (s : Settings) (bytes more out longer : List ℕ) → MeasureLive s bytes out
+    → MeasureFinal s (bytes ++ more) longer → (rest : List ℕ) × (longer ≡ out ++ rest)

@@ -1,5 +1,7 @@
--- The sums of a super-frame (the measurements are those of ETSI TR 101 290, 9.15 to 9.18; a super-frame has 272 symbols, EN 300 744, 4.4 and 4.7).
-use Rattle.std.specs.Prelude.{◌≡◌, ℕ, zero, suc, ◌+◌, ◌-◌, ◌*◌, ◌/◌, ◌<◌, ◌≤◌, min, nat_lt, nat_le, ◌&&◌, not, if◌then◌else◌, Bool, List, Option, None, Some, count_by, sum_by, slice_index}
+-- The sums of a super-frame (the measurements are those of ETSI TR 101 290, 9.15 to 9.18; a super-frame has 272
+-- symbols, EN 300 744, 4.4 and 4.7).
+use Rattle.std.specs.Prelude.{◌≡◌, ℕ, zero, suc, ◌+◌, ◌-◌, ◌*◌, ◌/◌, ◌<◌, ◌≤◌, min, nat_lt, nat_le, ◌&&◌, not}
+use Rattle.std.specs.Prelude.{if◌then◌else◌, Bool, List, Option, None, Some, count_by, sum_by, slice_index}
 use Rattle.std.specs.Bool.{beq}
 use Rattle.std.specs.List.{range_with_len}
 use Rattle.spec_words.specs.Bits.{is_set}
@@ -34,7 +36,8 @@ compared_in s known j = count_by (λ m. is_compared s m (known m)) (symbols_of j
 
 -- the sum of a quantity over the compared symbols
 abbrev pub over_compared : Settings → List ℕ → Knowns → ℕ → (Comparison → ℕ) → ℕ
-over_compared s bytes known j f = sum_by (λ m. if is_compared s m (known m) then f (comparison s bytes (known m) m) else 0) (symbols_of j)
+over_compared s bytes known j f = sum_by (λ m. if is_compared s m (known m) then f (comparison s bytes (known m) m) else
+    0) (symbols_of j)
 
 -- the bits of a stream known with the last symbol of super-frame j
 abbrev pub known_with : Knowns → Stream → ℕ → List Bool
@@ -56,7 +59,8 @@ words_of s known σ j = range_with_len (told_before s known σ j) (told s known 
 
 -- the number of bits in which two words of 204 bytes differ
 abbrev pub bits_apart : List ℕ → List ℕ → ℕ
-bits_apart v w = sum_by (λ p. count_by (λ i. not (beq (is_set (slice_index v p) i) (is_set (slice_index w p) i))) (numbers 8)) (numbers 204)
+bits_apart v w = sum_by (λ p. count_by (λ i. not (beq (is_set (slice_index v p) i) (is_set (slice_index w p) i)))
+    (numbers 8)) (numbers 204)
 
 -- the number of bits repaired in a word: those that differ from its nearest codeword
 unfoldable pub repaired_in : List ℕ → Option (List ℕ) → ℕ
@@ -68,24 +72,29 @@ abbrev pub is_reported_in : Settings → Stream → ℕ → ℕ → Bool
 is_reported_in s σ j at = nat_lt (steps_before s σ (272 * j)) at && nat_le at (steps_before s σ (272 * (j + 1)))
 
 -- the sums of a stream in super-frame j
-pub record AreStreamSums (s : Settings) (bytes : List ℕ) (known : Knowns) (j : ℕ) (σ : Stream) (t : StreamSums) : Type 0 where
+pub record AreStreamSums (s : Settings) (bytes : List ℕ) (known : Knowns) (j : ℕ) (σ : Stream) (t : StreamSums) : Type
+    0 where
   pub bits : t.bits ≡ over_compared s bytes known j (λ x. bits_in x σ)
   pub wrong : t.wrong ≡ over_compared s bytes known j (λ x. wrong_in x σ)
   pub near : ℕ → Option (List ℕ)
   pub is_near : (x : ℕ) → x < told s known σ j → IsNear (word_at (bytes_of (known_with known σ j)) x) (near x)
   pub words : t.words ≡ told s known σ j - told_before s known σ j
-  pub clean : t.clean ≡ count_by (λ x. is_clean (word_at (bytes_of (known_with known σ j)) x) (near x)) (words_of s known σ j)
-  pub corrected : t.corrected ≡ count_by (λ x. has (near x) && not (is_clean (word_at (bytes_of (known_with known σ j)) x) (near x))) (words_of s known σ j)
+  pub clean : t.clean ≡ count_by (λ x. is_clean (word_at (bytes_of (known_with known σ j)) x) (near x))
+      (words_of s known σ j)
+  pub corrected : t.corrected ≡ count_by (λ x. has (near x) && not
+      (is_clean (word_at (bytes_of (known_with known σ j)) x) (near x))) (words_of s known σ j)
   pub bad : t.bad ≡ count_by (λ x. not (has (near x))) (words_of s known σ j)
   pub unphased : t.unphased ≡ count_by (λ x. not (has (phase_before near (suc x)))) (words_of s known σ j)
-  pub repaired : t.repaired ≡ sum_by (λ x. repaired_in (word_at (bytes_of (known_with known σ j)) x) (near x)) (words_of s known σ j)
+  pub repaired : t.repaired ≡ sum_by (λ x. repaired_in (word_at (bytes_of (known_with known σ j)) x) (near x))
+      (words_of s known σ j)
   pub reports : List ℕ
   pub are_reports : Reports memory (start_of s.start) (costs s bytes σ) reports
   pub unmerged : t.unmerged ≡ count_by (is_reported_in s σ j) reports
 
 -- the bits known for the symbols of super-frame j and for the symbol before them
 abbrev pub AreKnownAround : Settings → List ℕ → ℕ → Knowns → Type 0
-AreKnownAround s bytes j known = (m : ℕ) (σ : Stream) → 272 * j ≤ m + 1 → m < 272 * (j + 1) → IsKnown s bytes σ m (known m σ)
+AreKnownAround s bytes j known = (m : ℕ) (σ : Stream) → 272 * j ≤ m + 1 → m < 272 * (j + 1)
+    → IsKnown s bytes σ m (known m σ)
 
 -- the sums of super-frame j; LP has sums if it exists in the transmission
 pub record AreSums (s : Settings) (bytes : List ℕ) (j : ℕ) (f : SuperFrame) : Type 0 where
@@ -97,7 +106,8 @@ pub record AreSums (s : Settings) (bytes : List ℕ) (j : ℕ) (f : SuperFrame) 
   pub muted : f.muted ≡ over_compared s bytes known j muted_in
   pub power : f.power ≡ over_compared s bytes known j power_in
   pub error : f.error ≡ over_compared s bytes known j error_in
-  pub frames : CountsWords (λ i. frame_bits (tps_cells s bytes) (4 * j + i)) (min 4 (symbols s bytes / 68 - 4 * j)) f.tps_read f.tps_bad
+  pub frames : CountsWords (λ i. frame_bits (tps_cells s bytes) (4 * j + i)) (min 4 (symbols s bytes / 68 - 4 * j))
+      f.tps_read f.tps_bad
   pub hp : AreStreamSums s bytes known j Hp f.hp
   pub lp : StreamSums
   pub lp_are : AreStreamSums s bytes known j Lp lp

@@ -1,8 +1,8 @@
 // The laws of measurement, as contracts of functions with empty bodies.
 ghost use Rattle.measurement.specs.Laws.{SumsStay, OneSums, LiveBeginsLive, LiveBeginsFinal};
 
-use code_paths::{ended_once, given_once, reports_grow, reports_once};
 use code_paths::uniqueness::existence;
+use code_paths::{ended_once, given_once, reports_grow, reports_once};
 use symbol_parameters::laws::steps;
 
 /// More bytes leave the sums of a super-frame once its lines are defined.

@@ -23,11 +23,13 @@ use Rattle.measurer.specs.Sums.{AreSummed}
 
 -- The meter of a stream matches the costs of the bytes and the bits of its decoder. Its first word of the super-frame
 -- is the first one not reported before, by the bits known for the symbol before the super-frame.
-pub record MeterStands (moment : Moment) (x : StreamMeter) (s : Settings) (bytes : List ℕ) (σ : Stream) (j : ℕ) (bits : List Bool) : Type 0 where
+pub record MeterStands (moment : Moment) (x : StreamMeter) (s : Settings) (bytes : List ℕ) (σ : Stream) (j : ℕ)
+    (bits : List Bool) : Type 0 where
   pub from : ℕ
   pub reports : List ℕ
   pub stands : Stands moment x s σ j from (costs s bytes σ) bits reports
-  pub told : (known : Knowns) → ((m : ℕ) → m + 1 ≡ 272 * j → IsKnown s bytes σ m (known m σ)) → told_before s known σ j ≡ from
+  pub told : (known : Knowns) → ((m : ℕ) → m + 1 ≡ 272 * j → IsKnown s bytes σ m (known m σ)) → told_before s known σ j
+      ≡ from
 
 -- a received symbol of the bytes
 abbrev pub symbol_of : Settings → List ℕ → ℕ → SymbolState

@@ -93,7 +93,8 @@ pub record HasLines (s : Settings) (bytes : List ℕ) (n : ℕ) (lines : List �
 -- ---- between the steps
 
 -- Before its lines are given: the last symbol was taken, and the symbol whose bits it made known was compared.
-pub record HasCompared (s : Settings) (bytes : List ℕ) (frames : FrameReader) (x : MeterState) (lines : List ℕ) : Type 0 where
+pub record HasCompared (s : Settings) (bytes : List ℕ) (frames : FrameReader) (x : MeterState) (lines : List ℕ) : Type
+    0 where
   pub next : x.comparer.next ≡ symbols s bytes - 3
   pub number : x.current.number ≡ defined_by (symbols s bytes - 1)
   pub hp_settled : IsSettled x.hp.known
@@ -110,13 +111,15 @@ pub record IsCompared (s : Settings) (taken : ℕ) (frames : FrameReader) (x : M
   pub compared : HasCompared s bytes frames x lines
 
 -- After the lines were given
-pub record IsLive (s : Settings) (bytes : List ℕ) (frames : FrameReader) (x : MeterState) (lines : List ℕ) : Type 0 where
+pub record IsLive (s : Settings) (bytes : List ℕ) (frames : FrameReader) (x : MeterState) (lines : List ℕ) : Type
+    0 where
   pub goes_on : GoOn s bytes x
   pub frames_stand : FramesStand s bytes frames x.current
   pub lines_are : HasLines s bytes (defined_by (symbols s bytes)) lines
 
 -- At the end: if symbols of the super-frame remain, they are the last ones.
-pub record IsEnding (s : Settings) (bytes : List ℕ) (frames : FrameReader) (x : MeterState) (lines : List ℕ) : Type 0 where
+pub record IsEnding (s : Settings) (bytes : List ℕ) (frames : FrameReader) (x : MeterState) (lines : List ℕ) : Type
+    0 where
   pub within : x.current.number ≤ begun_by (symbols s bytes)
   pub few : symbols s bytes < 272 * (x.current.number + 1) + 3
   pub last : 272 * x.current.number < symbols s bytes → symbols s bytes < x.comparer.next + 4
@@ -124,7 +127,8 @@ pub record IsEnding (s : Settings) (bytes : List ℕ) (frames : FrameReader) (x 
   pub to : x.comparer.next ≤ 272 * (x.current.number + 1)
   pub stand : MetersStand at_end s bytes x
   pub reader : FrameStands s.mode frames (tps_cells s bytes) (symbols s bytes)
-  pub before : 272 * x.current.number < symbols s bytes → CountsWords (frame_bits (tps_cells s bytes)) (4 * x.current.number) x.current.read_before x.current.bad_before
+  pub before : 272 * x.current.number < symbols s bytes → CountsWords (frame_bits (tps_cells s bytes)) (4 *
+      x.current.number) x.current.read_before x.current.bad_before
   pub lines_are : HasLines s bytes x.current.number lines
 
 -- the same for some bytes of `taken` symbols

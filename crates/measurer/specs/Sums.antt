@@ -1,5 +1,6 @@
 -- The sums of a super-frame so far.
-use Rattle.std.specs.Prelude.{◌≡◌, ℕ, ◌+◌, ◌-◌, ◌*◌, ◌<◌, ◌≤◌, if◌then◌else◌, List, Option, None, Some, count_by, sum_by}
+use Rattle.std.specs.Prelude.{◌≡◌, ℕ, ◌+◌, ◌-◌, ◌*◌, ◌<◌, ◌≤◌, if◌then◌else◌, List, Option, None, Some, count_by}
+use Rattle.std.specs.Prelude.{sum_by}
 use Rattle.std.specs.List.{range_with_len}
 use Rattle.mode_set.specs.declared.modes.Stream.{Stream}
 use Rattle.mode_set.specs.declared.modes.Stream.TheVariants.{Hp, Lp}
@@ -26,7 +27,8 @@ first_of j k = range_with_len (272 * j) k
 
 -- the sum of a quantity over those of them that are compared
 abbrev pub over_first : Settings → List ℕ → Knowns → ℕ → ℕ → (Comparison → ℕ) → ℕ
-over_first s bytes known j k f = sum_by (λ m. if is_compared s m (known m) then f (comparison s bytes (known m) m) else 0) (first_of j k)
+over_first s bytes known j k f = sum_by (λ m. if is_compared s m (known m) then f (comparison s bytes (known m) m) else
+    0) (first_of j k)
 
 -- the sums are those of the first k symbols of super-frame j
 pub record AreFirstSums (s : Settings) (bytes : List ℕ) (known : Knowns) (j k : ℕ) (x : Current) : Type 0 where
@@ -46,4 +48,5 @@ AreKnown s bytes from to known = (m : ℕ) (σ : Stream) → from ≤ m → m < 
 
 -- by the known bits, the sums are those of the symbols of the super-frame below number `next`
 abbrev pub AreSummed : Settings → List ℕ → ℕ → Current → Type 0
-AreSummed s bytes next x = (known : Knowns) → AreKnown s bytes (272 * x.number) next known → AreFirstSums s bytes known x.number (next - 272 * x.number) x
+AreSummed s bytes next x = (known : Knowns) → AreKnown s bytes (272 * x.number) next known
+    → AreFirstSums s bytes known x.number (next - 272 * x.number) x

@@ -3,8 +3,8 @@ ghost use Rattle.std.specs.Prelude.{◌≡◌, ◌+◌, ◌*◌, ◌<◌, ◌≤
 ghost use Rattle.measure_sums.specs.Tables.{AreLittle, no_sums};
 ghost use Rattle.measurer.specs.Sums.{nothing_of, with_symbol};
 
-use measure_report::{BitSums, SymbolSums};
 use inner_receiver::FrameReader;
+use measure_report::{BitSums, SymbolSums};
 
 /// The super-frame whose lines come next: the sums of its symbols so far, and the TPS words of the frames before it.
 #[derive(Clone, Copy, Debug, Drop, PartialEq, Eq)]

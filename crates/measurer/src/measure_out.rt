@@ -5,8 +5,7 @@ ghost use Rattle.measure_report.specs.Text.{lines};
 ghost use Rattle.rx_report.specs.Text.{closing_lines};
 
 use measure_report::SuperFrame;
-use rx_report::Line;
-use rx_report::Counts;
+use rx_report::{Counts, Line};
 use std::alloc::{AllocError, Global};
 use std::marker::Model;
 

@@ -1,5 +1,6 @@
 // The measurer.
-ghost use Rattle.std.specs.Prelude.{◌≡◌, ◌+◌, ◌-◌, ◌*◌, ◌<◌, ◌≤◌, ◌^◌, ◌++◌, [], ℕ, List, true, false, min, take, length, IfOk};
+ghost use Rattle.std.specs.Prelude.{◌≡◌, ◌+◌, ◌-◌, ◌*◌, ◌<◌, ◌≤◌, ◌^◌, ◌++◌, [], ℕ, List, true, false, min, take};
+ghost use Rattle.std.specs.Prelude.{length, IfOk};
 ghost use Rattle.std.specs.List.{concat};
 ghost use Rattle.reception.specs.Streams.{so_far, at_end};
 ghost use Rattle.mode_set.specs.declared.settings.Settings.{Settings as AnySettings};
@@ -10,15 +11,16 @@ ghost use Rattle.measure_stream.specs.Reports.{AreFew};
 ghost use Rattle.measurement.specs.Lines.{defined_by};
 ghost use Rattle.measurer.specs.Sums.{nothing_of};
 ghost use Rattle.measurer.specs.Standing.{MetersStand, FramesStand, StandsFor};
-ghost use Rattle.measurer.specs.Steps.{AreKept, HasBegun, HasStood, IsDone, CountsOn, HasLines, HasCompared, IsCompared, IsLive, IsEnding, IsEnded, HasPlace, Adds};
+ghost use Rattle.measurer.specs.Steps.{AreKept, HasBegun, HasStood, IsDone, CountsOn, HasLines, HasCompared};
+ghost use Rattle.measurer.specs.Steps.{IsCompared, IsLive, IsEnding, IsEnded, HasPlace, Adds};
 
 use crate::measure_out::{MeasureOut, put_counts, put_super_frame};
 use crate::meter::FrameMeter;
+use inner_receiver::{FrameReader, SymbolCosts};
 use mode_set::{Carriers, Settings};
 use std::alloc::{AllocError, Global};
 use std::marker::Model;
 use std::thread::Threads;
-use inner_receiver::{FrameReader, SymbolCosts};
 use word_workers::{Gate, OpenGate};
 
 /// The symbols of a super-frame.
@@ -27,10 +29,12 @@ const SYMBOLS: u64 = 272;
 /// The symbols after a symbol whose decided bits it is compared with.
 const LATER: u64 = 3;
 
-/// Measures the cells of a transmission, as bytes that are cut anywhere, and gives the lines of each super-frame with the symbol that
+/// Measures the cells of a transmission, as bytes that are cut anywhere, and gives the lines of each super-frame with
+/// the symbol that
 /// defines them.
 ///
-/// It stands for the bytes that it has had and for the lines that it gave. No call but `new` takes memory or is refused.
+/// It stands for the bytes that it has had and for the lines that it gave. No call but `new` takes memory or is
+/// refused.
 #[derive(Drop)]
 pub struct Measurer<M: Carriers> {
     cells: SymbolCosts<M>,
@@ -45,9 +49,26 @@ impl<M: Carriers> Model for Measurer<M> {
 
     ghost Value = { MeasurerState };
 
-    ghost view = { λ x. record { settings = x.cells.settings; rest = x.cells.rest; taken = x.cells.taken; meter = x.meter; frames = x.frames; ended = x.ended } };
+    ghost view = { λ x. record {
+      settings = x.cells.settings;
+      rest = x.cells.rest;
+      taken = x.cells.taken;
+      meter
+          = x.meter;
+      frames = x.frames;
+      ended = x.ended;
+    } };
 
-    ghost invariant = { λ x. IsKept (record { settings = x.cells.settings; rest = x.cells.rest; taken = x.cells.taken; meter = x.meter; frames = x.frames; ended = x.ended }) };
+    ghost invariant = { λ x. IsKept
+        (record {
+          settings = x.cells.settings;
+          rest = x.cells.rest;
+          taken = x.cells.taken;
+          meter = x.meter;
+          frames
+              = x.frames;
+          ended = x.ended;
+        }) };
 }
 
 /// Gives the lines of the current super-frame, and passes on to the next one.
@@ -68,9 +89,13 @@ fn close_super_frame<M: Carriers>(
     ensures current { meter.new.current ≡ nothing_of (meter.old.current.number + 1) frames.now.read frames.now.bad }
     ensures hp_reports { (n : ℕ) → AreFew meter.old.hp.reports n → AreFew meter.new.hp.reports n }
     ensures lp_reports { (n : ℕ) → AreFew meter.old.lp.reports n → AreFew meter.new.lp.reports n }
-    ensures stand { (moment : Moment) (bytes : List ℕ) → MetersStand moment cells.now.settings bytes meter.old → IsDone moment (symbols cells.now.settings bytes) meter.old.comparer.next meter.old.current.number → MetersStand moment cells.now.settings bytes meter.new }
-    ensures lines { (moment : Moment) (bytes given : List ℕ) → MetersStand moment cells.now.settings bytes meter.old → FramesStand cells.now.settings bytes frames.now meter.old.current
-        → IsDone moment (symbols cells.now.settings bytes) meter.old.comparer.next meter.old.current.number → HasLines cells.now.settings bytes meter.old.current.number given
+    ensures stand { (moment : Moment) (bytes : List ℕ) → MetersStand moment cells.now.settings bytes meter.old
+        → IsDone moment (symbols cells.now.settings bytes) meter.old.comparer.next meter.old.current.number
+        → MetersStand moment cells.now.settings bytes meter.new }
+    ensures lines { (moment : Moment) (bytes given : List ℕ) → MetersStand moment cells.now.settings bytes meter.old
+        → FramesStand cells.now.settings bytes frames.now meter.old.current
+        → IsDone moment (symbols cells.now.settings bytes) meter.old.comparer.next meter.old.current.number
+        → HasLines cells.now.settings bytes meter.old.current.number given
         → Adds out.old out.new (HasLines cells.now.settings bytes (meter.old.current.number + 1)) given }
 {
     put_super_frame(&meter.super_frame(frames, cells), out);
@@ -86,10 +111,15 @@ fn compare_next<M: Carriers>(taken: u64, meter: &mut FrameMeter<M>)
     requires begun { HasBegun meter.old }
     ensures kept { AreKept meter.new taken }
     ensures next { meter.new.comparer.next ≡ taken - 3 }
-    ensures current { meter.new.current ≡ record meter.old.current { symbols = meter.new.current.symbols; sums = meter.new.current.sums } }
+    ensures current { meter.new.current ≡ record meter.old.current {
+      symbols = meter.new.current.symbols;
+      sums =
+          meter.new.current.sums;
+    } }
     ensures hp_settled { IsSettled meter.new.hp.known }
     ensures lp_settled { IsSettled meter.new.lp.known }
-    ensures compared { (s : AnySettings) (bytes : List ℕ) → symbols s bytes ≡ taken → MetersStand so_far s bytes meter.old → MetersStand so_far s bytes meter.new }
+    ensures compared { (s : AnySettings) (bytes : List ℕ) → symbols s bytes ≡ taken
+        → MetersStand so_far s bytes meter.old → MetersStand so_far s bytes meter.new }
 {
     symbol_parameters::laws::steps();
     if taken > LATER {
@@ -110,7 +140,9 @@ fn give_lines<M: Carriers>(
     requires none { out.old ≡ [] }
     ensures few { length out.new ≤ 3 }
     ensures kept { AreKept meter.new cells.now.taken }
-    ensures live { (bytes given : List ℕ) → symbols cells.now.settings bytes ≡ cells.now.taken → HasCompared cells.now.settings bytes frames.now meter.old given → IsLive cells.now.settings bytes frames.now meter.new (given ++ concat out.new) }
+    ensures live { (bytes given : List ℕ) → symbols cells.now.settings bytes ≡ cells.now.taken
+        → HasCompared cells.now.settings bytes frames.now meter.old given
+        → IsLive cells.now.settings bytes frames.now meter.new (given ++ concat out.new) }
 {
     if cells.symbols() == SYMBOLS * (meter.number() + 1) + LATER {
         close_super_frame(cells, frames, meter, out);
@@ -130,9 +162,13 @@ fn end_super_frame<M: Carriers>(
     requires room { length out.old ≤ 6 }
     ensures few { length out.new ≤ length out.old + 3 }
     ensures place { HasPlace meter.new cells.now.taken }
-    ensures further { 272 * meter.old.current.number < cells.now.taken → meter.new.current.number ≡ meter.old.current.number + 1 }
-    ensures stays { cells.now.taken ≤ 272 * meter.old.current.number → meter.new.current.number ≡ meter.old.current.number }
-    ensures ended { (bytes given : List ℕ) → symbols cells.now.settings bytes ≡ cells.now.taken → IsEnding cells.now.settings bytes frames.now meter.old given → Adds out.old out.new (IsEnding cells.now.settings bytes frames.now meter.new) given }
+    ensures further { 272 * meter.old.current.number < cells.now.taken → meter.new.current.number
+        ≡ meter.old.current.number + 1 }
+    ensures stays { cells.now.taken ≤ 272 * meter.old.current.number → meter.new.current.number
+        ≡ meter.old.current.number }
+    ensures ended { (bytes given : List ℕ) → symbols cells.now.settings bytes ≡ cells.now.taken
+        → IsEnding cells.now.settings bytes frames.now meter.old given
+        → Adds out.old out.new (IsEnding cells.now.settings bytes frames.now meter.new) given }
 {
     let taken = cells.symbols();
     let number = meter.number();
@@ -143,7 +179,8 @@ fn end_super_frame<M: Carriers>(
 }
 
 impl<M: Carriers> Measurer<M> {
-    /// A measurer that has had no byte. It takes all its memory, enough for any parameters of the mode; the only error is want of it.
+    /// A measurer that has had no byte. It takes all its memory, enough for any parameters of the mode; the only error
+    /// is want of it.
     pub fn new(alloc: Global, settings: &Settings) -> Result<Self, AllocError>
         requires mode { settings.now.mode ≡ M.MODE }
         ensures settings { IfOk result (λ x. x.settings ≡ settings.now) }
@@ -171,7 +208,8 @@ impl<M: Carriers> Measurer<M> {
         ensures count { result ≡ min (length piece.now) (5 * M.K - length self.old.rest) }
         ensures taken { self.new.taken ≤ self.old.taken + 1 }
         ensures few { length out.new ≤ 3 }
-        ensures fed { (bytes given : List ℕ) → StandsFor so_far self.old bytes given → StandsFor so_far self.new (bytes ++ take result piece.now) (given ++ concat out.new) }
+        ensures fed { (bytes given : List ℕ) → StandsFor so_far self.old bytes given
+            → StandsFor so_far self.new (bytes ++ take result piece.now) (given ++ concat out.new) }
     {
         self.feed_gated(rt, &OpenGate, piece, out)
     }
@@ -192,7 +230,8 @@ impl<M: Carriers> Measurer<M> {
         ensures count { result ≡ min (length piece.now) (5 * M.K - length self.old.rest) }
         ensures taken { self.new.taken ≤ self.old.taken + 1 }
         ensures few { length out.new ≤ 3 }
-        ensures fed { (bytes given : List ℕ) → StandsFor so_far self.old bytes given → StandsFor so_far self.new (bytes ++ take result piece.now) (given ++ concat out.new) }
+        ensures fed { (bytes given : List ℕ) → StandsFor so_far self.old bytes given
+            → StandsFor so_far self.new (bytes ++ take result piece.now) (given ++ concat out.new) }
     {
         reception::laws::symbols();
         reception::laws::costs();
@@ -219,7 +258,8 @@ impl<M: Carriers> Measurer<M> {
         ensures ended { self.new.ended ≡ true }
         ensures taken { self.new.taken ≡ self.old.taken }
         ensures few { length out.new ≤ 10 }
-        ensures finished { (bytes given : List ℕ) → StandsFor so_far self.old bytes given → StandsFor at_end self.new bytes (given ++ concat out.new) }
+        ensures finished { (bytes given : List ℕ) → StandsFor so_far self.old bytes given
+            → StandsFor at_end self.new bytes (given ++ concat out.new) }
     {
         out.clear();
         self.ended = true;

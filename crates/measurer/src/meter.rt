@@ -1,5 +1,6 @@
 // The measuring of symbols, super-frame after super-frame.
-ghost use Rattle.std.specs.Prelude.{◌≡◌, ◌+◌, ◌-◌, ◌*◌, ◌<◌, ◌≤◌, ◌^◌, ◌++◌, [], ℕ, List, Bool, true, false, IfOk, length};
+ghost use Rattle.std.specs.Prelude.{◌≡◌, ◌+◌, ◌-◌, ◌*◌, ◌<◌, ◌≤◌, ◌^◌, ◌++◌, [], ℕ, List, Bool, true, false, IfOk};
+ghost use Rattle.std.specs.Prelude.{length};
 ghost use Rattle.mode_set.specs.declared.settings.Settings.{Settings as AnySettings};
 ghost use Rattle.measure_known_bits.specs.Passing.{IsSettled};
 ghost use Rattle.reception.specs.Cells.{symbols};
@@ -12,18 +13,19 @@ ghost use Rattle.measurer.specs.Sums.{nothing_of};
 ghost use Rattle.measure_stream.specs.Reports.{AreFew};
 ghost use Rattle.measurement.specs.SuperFrames.{AreSums};
 ghost use Rattle.measurer.specs.Standing.{GoOn, MetersStand, FramesStand};
-ghost use Rattle.measurer.specs.Steps.{AreKept, TakesSymbol, TakesNext, HasBegun, HasStood, HasGone, IsDue, IsDone, CountsOn, AreClosing};
+ghost use Rattle.measurer.specs.Steps.{AreKept, TakesSymbol, TakesNext, HasBegun, HasStood, HasGone, IsDue, IsDone};
+ghost use Rattle.measurer.specs.Steps.{CountsOn, AreClosing};
 
 use crate::current::Current;
+use inner_receiver::{FrameReader, SymbolCosts, take_symbol};
+use measure_comparison::Comparer;
 use measure_report::SuperFrame;
+use measure_stream::StreamMeter;
 use mode_set::{Carriers, Settings, Stream};
 use rx_report::{Counts, Event};
 use std::alloc::{AllocError, Global};
 use std::marker::Model;
 use std::thread::Threads;
-use inner_receiver::{FrameReader, SymbolCosts, take_symbol};
-use measure_stream::StreamMeter;
-use measure_comparison::Comparer;
 use word_workers::Gate;
 
 /// The symbols of a super-frame.
@@ -32,7 +34,8 @@ const SYMBOLS: u64 = 272;
 /// The most reports of one symbol.
 const EVENTS: usize = 32;
 
-/// Has the decoders of both streams and what becomes of their bits, and compares the symbols of the current super-frame.
+/// Has the decoders of both streams and what becomes of their bits, and compares the symbols of the current
+/// super-frame.
 #[derive(Drop)]
 pub(crate) struct FrameMeter<M: Carriers> {
     comparer: Comparer<M>,
@@ -97,7 +100,8 @@ impl<M: Carriers> FrameMeter<M> {
         ensures kept { AreKept self.new cells.now.taken }
         ensures next { self.new.comparer.next ≡ self.old.comparer.next }
         ensures current { self.new.current ≡ self.old.current }
-        ensures taken { (bytes p : List ℕ) → TakesSymbol self.old cells.now bytes p → MetersStand so_far cells.now.settings (bytes ++ p) self.new }
+        ensures taken { (bytes p : List ℕ) → TakesSymbol self.old cells.now bytes p
+            → MetersStand so_far cells.now.settings (bytes ++ p) self.new }
     {
         measure_comparison::laws::standing();
         measure_stream::laws::ready();
@@ -136,12 +140,18 @@ impl<M: Carriers> FrameMeter<M> {
         ensures next { self.new.comparer.next ≡ self.old.comparer.next + 1 }
         ensures hp { self.new.hp ≡ record self.old.hp { known = self.new.hp.known } }
         ensures lp { self.new.lp ≡ record self.old.lp { known = self.new.lp.known } }
-        ensures current { self.new.current ≡ record self.old.current { symbols = self.new.current.symbols; sums = self.new.current.sums } }
+        ensures current { self.new.current ≡ record self.old.current {
+          symbols = self.new.current.symbols;
+          sums =
+              self.new.current.sums;
+        } }
         ensures symbols { self.new.current.symbols ≤ self.old.current.symbols + 1 }
         ensures little { AreLittle self.new.current.sums (6048 * self.new.current.symbols) }
         ensures hp_settled { IsSettled self.new.hp.known }
         ensures lp_settled { IsSettled self.new.lp.known }
-        ensures compared { (moment : Moment) (s : AnySettings) (bytes : List ℕ) → MetersStand moment s bytes self.old → IsDue moment (symbols s bytes) self.old.comparer.next → 272 * self.old.current.number ≤ self.old.comparer.next
+        ensures compared { (moment : Moment) (s : AnySettings) (bytes : List ℕ) → MetersStand moment s bytes self.old
+            → IsDue moment (symbols s bytes) self.old.comparer.next
+            → 272 * self.old.current.number ≤ self.old.comparer.next
             → MetersStand moment s bytes self.new }
     {
         measure_known_bits::laws::rooms();
@@ -163,8 +173,14 @@ impl<M: Carriers> FrameMeter<M> {
         requires little { AreLittle self.old.current.sums (6048 * self.old.current.symbols) }
         requires begun { HasBegun self.old }
         ensures next { self.new.comparer.next ≡ to }
-        ensures current { self.new.current ≡ record self.old.current { symbols = self.new.current.symbols; sums = self.new.current.sums } }
-        ensures compared { (s : AnySettings) (bytes : List ℕ) → MetersStand at_end s bytes self.old → to ≤ symbols s bytes → symbols s bytes < self.old.comparer.next + 4 → 272 * self.old.current.number ≤ self.old.comparer.next
+        ensures current { self.new.current ≡ record self.old.current {
+          symbols = self.new.current.symbols;
+          sums =
+              self.new.current.sums;
+        } }
+        ensures compared { (s : AnySettings) (bytes : List ℕ) → MetersStand at_end s bytes self.old
+            → to ≤ symbols s bytes → symbols s bytes < self.old.comparer.next + 4
+            → 272 * self.old.current.number ≤ self.old.comparer.next
             → MetersStand at_end s bytes self.new }
     {
         for _m in self.comparer.next()..to {
@@ -175,8 +191,10 @@ impl<M: Carriers> FrameMeter<M> {
     /// The sums of the current super-frame.
     pub(crate) fn super_frame(&self, frames: &FrameReader, cells: &SymbolCosts<M>) -> SuperFrame
         requires counts { CountsOn self.now.current frames.now }
-        ensures sums { (moment : Moment) (bytes : List ℕ) → MetersStand moment cells.now.settings bytes self.now → FramesStand cells.now.settings bytes frames.now self.now.current
-            → IsDone moment (symbols cells.now.settings bytes) self.now.comparer.next self.now.current.number → AreSums cells.now.settings bytes self.now.current.number result }
+        ensures sums { (moment : Moment) (bytes : List ℕ) → MetersStand moment cells.now.settings bytes self.now
+            → FramesStand cells.now.settings bytes frames.now self.now.current
+            → IsDone moment (symbols cells.now.settings bytes) self.now.comparer.next self.now.current.number
+            → AreSums cells.now.settings bytes self.now.current.number result }
     {
         code_paths::uniqueness::existence();
         code_paths::given_once();
@@ -210,7 +228,9 @@ impl<M: Carriers> FrameMeter<M> {
         ensures current { self.new.current ≡ nothing_of (self.old.current.number + 1) frames.now.read frames.now.bad }
         ensures hp_reports { (n : ℕ) → AreFew self.old.hp.reports n → AreFew self.new.hp.reports n }
         ensures lp_reports { (n : ℕ) → AreFew self.old.lp.reports n → AreFew self.new.lp.reports n }
-        ensures advanced { (moment : Moment) (bytes : List ℕ) → MetersStand moment settings.now bytes self.old → IsDone moment (symbols settings.now bytes) self.old.comparer.next self.old.current.number → MetersStand moment settings.now bytes self.new }
+        ensures advanced { (moment : Moment) (bytes : List ℕ) → MetersStand moment settings.now bytes self.old
+            → IsDone moment (symbols settings.now bytes) self.old.comparer.next self.old.current.number
+            → MetersStand moment settings.now bytes self.new }
     {
         measure_known_bits::laws::rooms();
         symbol_parameters::laws::steps();
@@ -231,7 +251,8 @@ impl<M: Carriers> FrameMeter<M> {
         requires gone { HasGone settings.now self.old }
         ensures comparer { self.new.comparer ≡ self.old.comparer }
         ensures current { self.new.current ≡ self.old.current }
-        ensures finished { (bytes : List ℕ) → GoOn settings.now bytes self.old → MetersStand at_end settings.now bytes self.new }
+        ensures finished { (bytes : List ℕ) → GoOn settings.now bytes self.old
+            → MetersStand at_end settings.now bytes self.new }
     {
         measure_known_bits::laws::rooms();
         symbol_parameters::laws::steps();
@@ -246,7 +267,9 @@ impl<M: Carriers> FrameMeter<M> {
 
     /// The counts of all that was received.
     pub(crate) fn counts(&self, frames: &FrameReader, cells: &SymbolCosts<M>) -> Counts
-        ensures counts { (bytes : List ℕ) → MetersStand at_end cells.now.settings bytes self.now → FrameStands cells.now.settings.mode frames.now (tps_cells cells.now.settings bytes) (symbols cells.now.settings bytes) → cells.now.taken ≡ symbols cells.now.settings bytes
+        ensures counts { (bytes : List ℕ) → MetersStand at_end cells.now.settings bytes self.now
+            → FrameStands cells.now.settings.mode frames.now (tps_cells cells.now.settings bytes)
+            (symbols cells.now.settings bytes) → cells.now.taken ≡ symbols cells.now.settings bytes
             → cells.now.rest ≡ unfinished cells.now.settings bytes → AreClosing cells.now.settings bytes result }
     {
         reception::laws::symbols();

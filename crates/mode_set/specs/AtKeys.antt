@@ -6,7 +6,8 @@ use Rattle.toml.specs.Data.{Data, Members, no_members, member, get_member}
 use Rattle.toml.specs.Parse.{parse_document}
 use Rattle.mode_set.specs.Keys.{key_text}
 use Rattle.mode_set.specs.Kept.{is_flat, is_qpsk}
-use Rattle.mode_set.specs.Values.{mode_words, shape_words, hierarchy_words, rate_words, guard_words, start_words, a_word, a_number}
+use Rattle.mode_set.specs.Values.{mode_words, shape_words, hierarchy_words, rate_words, guard_words, start_words}
+use Rattle.mode_set.specs.Values.{a_word, a_number}
 use Rattle.mode_set.specs.declared.key.Key.{Key}
 use Rattle.mode_set.specs.declared.key.Key.TheVariants as key
 use Rattle.mode_set.specs.declared.error.SettingsError.{SettingsError}

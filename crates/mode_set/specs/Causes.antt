@@ -5,9 +5,11 @@ use Rattle.mode_set.specs.AtKeys.{at, shape_in, hierarchy_in, rate_lp_in}
 use Rattle.mode_set.specs.Document.{first_unknown}
 use Rattle.mode_set.specs.PlanKey.{a_plan}
 use Rattle.mode_set.specs.Kept.{is_flat}
-use Rattle.mode_set.specs.Values.{mode_words, shape_words, hierarchy_words, rate_words, guard_words, start_words, a_word, a_number}
+use Rattle.mode_set.specs.Values.{mode_words, shape_words, hierarchy_words, rate_words, guard_words, start_words}
+use Rattle.mode_set.specs.Values.{a_word, a_number}
 use Rattle.mode_set.specs.declared.key.Key.{Key}
-use Rattle.mode_set.specs.declared.key.Key.TheVariants.{Mode, Constellation, Hierarchy, RateHp, RateLp, Guard, CellId, Start, Workers, MaxSymbols, Plan}
+use Rattle.mode_set.specs.declared.key.Key.TheVariants.{Mode, Constellation, Hierarchy, RateHp, RateLp, Guard, CellId}
+use Rattle.mode_set.specs.declared.key.Key.TheVariants.{Start, Workers, MaxSymbols, Plan}
 use Rattle.mode_set.specs.declared.error.SettingsError.{SettingsError}
 use Rattle.mode_set.specs.declared.error.SettingsError.TheVariants.{NotToml, Unknown, Missing, Value, Clash, Memory}
 use Rattle.mode_set.specs.declared.modes.Shape.TheVariants.{Qpsk}
@@ -52,7 +54,8 @@ HasWrongValue k ms = IsSomeAnd (at k ms) (λ d. IsFalse (fits k d))
 -- QPSK with a hierarchy, an LP rate without a hierarchy, or a hierarchy without an LP rate
 abbrev pub Clashes : Key → Members → Type 0
 Clashes Hierarchy ms = (shape_in ms ≡ Ok Qpsk) × (hierarchy_in ms ≢ Ok Flat)
-Clashes RateLp ms = (h : HierarchyOf) × ((r : Option Rate) × ((hierarchy_in ms ≡ Ok h) × (rate_lp_in ms ≡ Ok r) × (is_some r ≡ is_flat h)))
+Clashes RateLp ms = (h : HierarchyOf) × ((r : Option Rate) ×
+    ((hierarchy_in ms ≡ Ok h) × (rate_lp_in ms ≡ Ok r) × (is_some r ≡ is_flat h)))
 Clashes _ ms = ⊥
 
 abbrev pub HasCause : Members → SettingsError → Type 0

@@ -3,7 +3,9 @@ use Rattle.std.specs.Prelude.{◌≡◌, ℕ, not, List, [], ◌∷◌, Option, 
 use Rattle.std.specs.Result.{result_err}
 use Rattle.toml.specs.Data.{Members}
 use Rattle.mode_set.specs.Keys.{is_key}
-use Rattle.mode_set.specs.AtKeys.{document, keys_of, mode_in, shape_in, hierarchy_in, rate_hp_in, rate_lp_in, guard_in, cell_id_in, start_in, workers_in, max_symbols_in, hierarchy_clash, rate_lp_clash, first_of}
+use Rattle.mode_set.specs.AtKeys.{document, keys_of, mode_in, shape_in, hierarchy_in, rate_hp_in, rate_lp_in, guard_in}
+use Rattle.mode_set.specs.AtKeys.{cell_id_in, start_in, workers_in, max_symbols_in, hierarchy_clash, rate_lp_clash}
+use Rattle.mode_set.specs.AtKeys.{first_of}
 use Rattle.mode_set.specs.PlanKey.{plan_in}
 use Rattle.mode_set.specs.StatedSettings.{settings_of}
 use Rattle.mode_set.specs.declared.error.SettingsError.{SettingsError}

@@ -7,7 +7,15 @@ use Rattle.mode_set.specs.declared.settings.Settings.{Settings}
 
 -- the settings' own parameters, valid from super-frame 0
 abbrev pub top : Settings → Entry
-top s = record { after = 0; shape = s.shape; hierarchy = s.hierarchy; rate_hp = s.rate_hp; rate_lp = s.rate_lp; kept = record { qpsk = s.kept.qpsk; lp = s.kept.lp } }
+top s = record {
+  after = 0;
+  shape = s.shape;
+  hierarchy = s.hierarchy;
+  rate_hp = s.rate_hp;
+  rate_lp = s.rate_lp;
+  kept
+      = record { qpsk = s.kept.qpsk; lp = s.kept.lp };
+}
 
 -- the last plan entry whose number is at most j; without one, the settings' own parameters
 abbrev pub entry : Settings → ℕ → Entry
@@ -24,5 +32,12 @@ with_entry s e = record s {
   hierarchy = e.hierarchy;
   rate_hp = e.rate_hp;
   rate_lp = e.rate_lp;
-  kept = record { qpsk = e.kept.qpsk; lp = e.kept.lp; some_worker = s.kept.some_worker; few_workers = s.kept.few_workers; some_symbol = s.kept.some_symbol };
+  kept = record {
+    qpsk = e.kept.qpsk;
+    lp = e.kept.lp;
+    some_worker = s.kept.some_worker;
+    few_workers
+        = s.kept.few_workers;
+    some_symbol = s.kept.some_symbol;
+  };
 }

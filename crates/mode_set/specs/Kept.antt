@@ -20,7 +20,8 @@ is_qpsk Qam16 = false
 is_qpsk Qam64 = false
 
 -- QPSK has no hierarchy, the LP rate is given exactly with one, and the numbers are in range
-pub record IsKept (shape : Shape) (hierarchy : Hierarchy) (rate_lp : Option Rate) (workers max_symbols : ℕ) : Type 0 where
+pub record IsKept (shape : Shape) (hierarchy : Hierarchy) (rate_lp : Option Rate) (workers max_symbols : ℕ) : Type
+    0 where
   pub qpsk : IsTrue (is_qpsk shape) → IsTrue (is_flat hierarchy)
   pub lp : is_some rate_lp ≡ not (is_flat hierarchy)
   pub some_worker : 1 ≤ workers
@@ -34,8 +35,10 @@ pub record IsKeptEntry (shape : Shape) (hierarchy : Hierarchy) (rate_lp : Option
 
 -- whether parameters fit one another
 abbrev pub fit_together : Shape → Hierarchy → Option Rate → Bool
-fit_together shape hierarchy rate_lp = (not (is_qpsk shape) || is_flat hierarchy) && beq (is_some rate_lp) (not (is_flat hierarchy))
+fit_together shape hierarchy rate_lp = (not (is_qpsk shape) || is_flat hierarchy)
+    && beq (is_some rate_lp) (not (is_flat hierarchy))
 
 -- whether the parameters fit and the numbers are in range
 abbrev pub fit : Shape → Hierarchy → Option Rate → ℕ → ℕ → Bool
-fit shape hierarchy rate_lp workers most = fit_together shape hierarchy rate_lp && (nat_le 1 workers && (nat_le workers 16 && nat_le 1 most))
+fit shape hierarchy rate_lp workers most = fit_together shape hierarchy rate_lp
+    && (nat_le 1 workers && (nat_le workers 16 && nat_le 1 most))

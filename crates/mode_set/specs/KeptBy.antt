@@ -1,5 +1,6 @@
 -- The checks of settings, entries and plans imply the invariants of their types.
-use Rattle.std.specs.Prelude.{◌≡◌, ℕ, nat_le, Bool, true, false, not, ◌&&◌, ◌||◌, List, [], ◌∷◌, ◌++◌, ◌-◌, length, take, replicate, Option, is_some, refl}
+use Rattle.std.specs.Prelude.{◌≡◌, ℕ, nat_le, Bool, true, false, not, ◌&&◌, ◌||◌, List, [], ◌∷◌, ◌++◌, ◌-◌, length}
+use Rattle.std.specs.Prelude.{take, replicate, Option, is_some, refl}
 use Rattle.std.specs.Bool.{beq}
 use Rattle.std.proofs.Common.{◌∙◌, sym, ap, arith, length-append}
 use Rattle.std.proofs.lemmas.Bool.{and_parts, leb-true, true≢false}
@@ -23,14 +24,21 @@ same true false e = absurd (true≢false (sym e))
 same false true e = e
 same false false e = refl
 
-pub kept_together : (shape : Shape) (hierarchy : Hierarchy) (rate_lp : Option Rate) → fit_together shape hierarchy rate_lp ≡ true → IsKeptEntry shape hierarchy rate_lp
+pub kept_together : (shape : Shape) (hierarchy : Hierarchy) (rate_lp : Option Rate)
+    → fit_together shape hierarchy rate_lp ≡ true → IsKeptEntry shape hierarchy rate_lp
 kept_together shape hierarchy rate_lp e =
     let a = and_parts (not (is_qpsk shape) || is_flat hierarchy) (beq (is_some rate_lp) (not (is_flat hierarchy))) e in
-    record { qpsk = implied (is_qpsk shape) (is_flat hierarchy) a.0; lp = same (is_some rate_lp) (not (is_flat hierarchy)) a.1 }
+    record {
+      qpsk = implied (is_qpsk shape) (is_flat hierarchy) a.0;
+      lp
+          = same (is_some rate_lp) (not (is_flat hierarchy)) a.1;
+    }
 
-pub kept_if : (shape : Shape) (hierarchy : Hierarchy) (rate_lp : Option Rate) (workers most : ℕ) → fit shape hierarchy rate_lp workers most ≡ true → IsKept shape hierarchy rate_lp workers most
+pub kept_if : (shape : Shape) (hierarchy : Hierarchy) (rate_lp : Option Rate) (workers most : ℕ)
+    → fit shape hierarchy rate_lp workers most ≡ true → IsKept shape hierarchy rate_lp workers most
 kept_if shape hierarchy rate_lp workers most e =
-    let a = and_parts (fit_together shape hierarchy rate_lp) (nat_le 1 workers && (nat_le workers 16 && nat_le 1 most)) e in
+    let a = and_parts (fit_together shape hierarchy rate_lp) (nat_le 1 workers && (nat_le workers 16 && nat_le 1 most))
+    e in
     let kept = kept_together shape hierarchy rate_lp a.0 in
     let b = and_parts (nat_le 1 workers) (nat_le workers 16 && nat_le 1 most) a.1 in
     let c = and_parts (nat_le workers 16) (nat_le 1 most) b.1 in
@@ -53,7 +61,8 @@ kept_plan es e =
     let front = take_front es (replicate (16 - length es) filler) in
     record {
       few = few;
-      long = length-append es (replicate (16 - length es) filler) ∙ (let r = length-replicate (16 - length es) filler in omega (arith, r, few));
+      long = length-append es (replicate (16 - length es) filler)
+          ∙ (let r = length-replicate (16 - length es) filler in omega (arith, r, few));
       rest = ap filled (sym front);
       rising = ap is_rising front ∙ a.1;
     }

@@ -2,7 +2,8 @@
 use Rattle.std.specs.Prelude.{codes, ℕ, Bool, List, [], ◌∷◌, bytes_eq}
 use Rattle.std.specs.List.{list_any}
 use Rattle.mode_set.specs.declared.key.Key.{Key}
-use Rattle.mode_set.specs.declared.key.Key.TheVariants.{Mode, Constellation, Hierarchy, RateHp, RateLp, Guard, CellId, Start, Workers, MaxSymbols, Plan}
+use Rattle.mode_set.specs.declared.key.Key.TheVariants.{Mode, Constellation, Hierarchy, RateHp, RateLp, Guard, CellId}
+use Rattle.mode_set.specs.declared.key.Key.TheVariants.{Start, Workers, MaxSymbols, Plan}
 
 -- the text of a key in a document
 abbrev pub key_text : Key → List ℕ
@@ -20,7 +21,8 @@ key_text Plan = codes "plan"
 
 -- all keys, in the order of the tests
 abbrev pub all_keys : List Key
-all_keys = Mode ∷ Constellation ∷ Hierarchy ∷ RateHp ∷ RateLp ∷ Guard ∷ CellId ∷ Start ∷ Workers ∷ MaxSymbols ∷ Plan ∷ []
+all_keys = Mode ∷ Constellation ∷ Hierarchy ∷ RateHp ∷ RateLp ∷ Guard ∷ CellId ∷ Start ∷ Workers ∷ MaxSymbols ∷ Plan
+    ∷ []
 
 -- whether a text is a key of the document
 abbrev pub is_key : List ℕ → Bool

@@ -1,5 +1,6 @@
 -- The plan in a settings document: key `plan`, an array of 1 to 16 tables, one for each entry.
-use Rattle.std.specs.Prelude.{◌≡◌, codes, ℕ, Bool, true, false, if◌then◌else◌, List, [], ◌∷◌, Option, Some, None, option_and_then, Result, Ok, bytes_eq, refl}
+use Rattle.std.specs.Prelude.{◌≡◌, codes, ℕ, Bool, true, false, if◌then◌else◌, List, [], ◌∷◌, Option, Some, None}
+use Rattle.std.specs.Prelude.{option_and_then, Result, Ok, bytes_eq, refl}
 use Rattle.std.specs.List.{list_all, list_any}
 use Rattle.toml.specs.Data.{Data, Items, no_items, item, Members, get_member, as_array, as_table}
 use Rattle.mode_set.specs.AtKeys.{keys_of, at, with_default, shape_in, hierarchy_in, rate_hp_in, rate_lp_in}
@@ -32,19 +33,24 @@ abbrev pub after_in : Members → Option ℕ
 after_in ms = option_and_then (a_number 1 4294967295) (get_member (codes "after") ms)
 
 -- an entry of these values, if they fit one another
-abbrev pub entry_if : ℕ → (shape : Shape) (hierarchy : Hierarchy) → Rate → (rate_lp : Option Rate) → (fits : Bool) → (fits ≡ true → IsKeptEntry shape hierarchy rate_lp) → Option Entry
-entry_if after shape hierarchy rate_hp rate_lp true kept = Some (record { after = after; shape = shape; hierarchy = hierarchy; rate_hp = rate_hp; rate_lp = rate_lp; kept = kept refl })
+abbrev pub entry_if : ℕ → (shape : Shape) (hierarchy : Hierarchy) → Rate → (rate_lp : Option Rate) → (fits : Bool)
+    → (fits ≡ true → IsKeptEntry shape hierarchy rate_lp) → Option Entry
+entry_if after shape hierarchy rate_hp rate_lp true kept = Some (record
+    { after = after; shape = shape; hierarchy = hierarchy; rate_hp = rate_hp; rate_lp = rate_lp; kept = kept refl })
 entry_if after shape hierarchy rate_hp rate_lp false kept = None
 
 -- the same from the values at the keys
-abbrev pub entry_from : Option ℕ → Result Shape SettingsError → Result Hierarchy SettingsError → Result Rate SettingsError → Result (Option Rate) SettingsError → Option Entry
+abbrev pub entry_from : Option ℕ → Result Shape SettingsError → Result Hierarchy SettingsError
+    → Result Rate SettingsError → Result (Option Rate) SettingsError → Option Entry
 entry_from (Some after) (Ok shape) (Ok hierarchy) (Ok rate_hp) (Ok rate_lp) =
-    entry_if after shape hierarchy rate_hp rate_lp (fit_together shape hierarchy rate_lp) (kept_together shape hierarchy rate_lp)
+    entry_if after shape hierarchy rate_hp rate_lp (fit_together shape hierarchy rate_lp)
+    (kept_together shape hierarchy rate_lp)
 entry_from after shape hierarchy rate_hp rate_lp = None
 
 -- The entry of a table that has only these keys. Values and clashes are checked as in the document.
 abbrev pub entry_in : Members → Option Entry
-entry_in ms = if has_entry_keys ms then entry_from (after_in ms) (shape_in ms) (hierarchy_in ms) (rate_hp_in ms) (rate_lp_in ms) else None
+entry_in ms = if has_entry_keys ms then entry_from (after_in ms) (shape_in ms) (hierarchy_in ms) (rate_hp_in ms)
+    (rate_lp_in ms) else None
 
 -- one more entry at the start of the list, if all are valid
 abbrev pub with_first : Option Entry → Option (List Entry) → Option (List Entry)

@@ -1,5 +1,6 @@
 -- Lists of entries, and arrays of 16 that hold them.
-use Rattle.std.specs.Prelude.{◌≡◌, ℕ, ◌-◌, ◌≤◌, nat_lt, nat_le, ◌&&◌, Bool, true, IsTrue, List, [], ◌∷◌, ◌++◌, length, take, replicate, None, refl}
+use Rattle.std.specs.Prelude.{◌≡◌, ℕ, ◌-◌, ◌≤◌, nat_lt, nat_le, ◌&&◌, Bool, true, IsTrue, List, [], ◌∷◌, ◌++◌, length}
+use Rattle.std.specs.Prelude.{take, replicate, None, refl}
 use Rattle.std.specs.List.{list_all}
 use Rattle.mode_set.specs.declared.modes.Shape.TheVariants.{Qpsk}
 use Rattle.mode_set.specs.declared.modes.Hierarchy.TheVariants.{Flat}
@@ -21,7 +22,15 @@ may_follow l e = nat_lt (length l) 16 && nat_lt 0 e.after && list_all (λ f. nat
 
 -- the padding after the last entry
 abbrev pub filler : Entry
-filler = record { after = 0; shape = Qpsk; hierarchy = Flat; rate_hp = R1of2; rate_lp = None; kept = record { qpsk = λ q. refl; lp = refl } }
+filler = record {
+  after = 0;
+  shape = Qpsk;
+  hierarchy = Flat;
+  rate_hp = R1of2;
+  rate_lp = None;
+  kept
+      = record { qpsk = λ q. refl; lp = refl };
+}
 
 -- a list of entries, padded to 16
 abbrev pub filled : List Entry → List Entry

@@ -1,5 +1,6 @@
 -- The allowed values of each key in a settings document.
-use Rattle.std.specs.Prelude.{codes, ℕ, ℤ, pos, ◌&&◌, if◌then◌else◌, nat_le, List, [], ◌∷◌, Option, Some, None, option_map, option_and_then, find, bytes_eq}
+use Rattle.std.specs.Prelude.{codes, ℕ, ℤ, pos, ◌&&◌, if◌then◌else◌, nat_le, List, [], ◌∷◌, Option, Some, None}
+use Rattle.std.specs.Prelude.{option_map, option_and_then, find, bytes_eq}
 use Rattle.toml.specs.Data.{Data, as_str, as_integer}
 use Rattle.mode_set.specs.declared.modes.Mode.{Mode}
 use Rattle.mode_set.specs.declared.modes.Mode.TheVariants.{M2k, M8k}
@@ -24,7 +25,8 @@ abbrev pub hierarchy_words : List (List ℕ × Hierarchy)
 hierarchy_words = (codes "none", Flat) ∷ (codes "1", Alpha1) ∷ (codes "2", Alpha2) ∷ (codes "4", Alpha4) ∷ []
 
 abbrev pub rate_words : List (List ℕ × Rate)
-rate_words = (codes "1/2", R1of2) ∷ (codes "2/3", R2of3) ∷ (codes "3/4", R3of4) ∷ (codes "5/6", R5of6) ∷ (codes "7/8", R7of8) ∷ []
+rate_words = (codes "1/2", R1of2) ∷ (codes "2/3", R2of3) ∷ (codes "3/4", R3of4) ∷ (codes "5/6", R5of6)
+    ∷ (codes "7/8", R7of8) ∷ []
 
 abbrev pub guard_words : List (List ℕ × Guard)
 guard_words = (codes "1/32", G1of32) ∷ (codes "1/16", G1of16) ∷ (codes "1/8", G1of8) ∷ (codes "1/4", G1of4) ∷ []

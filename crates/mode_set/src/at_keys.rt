@@ -3,7 +3,8 @@ ghost use Rattle.std.specs.Prelude.{◌≡◌, ◌∷◌, [], ◌≤◌, option_
 ghost use Rattle.toml.specs.Data.{get_member};
 ghost use Rattle.toml.specs.View.{view, table_view};
 ghost use Rattle.mode_set.specs.Values.{a_word, a_number};
-ghost use Rattle.mode_set.specs.AtKeys.{at, accepted, required, with_default, if_present, hierarchy_clash, rate_lp_clash, first_of};
+ghost use Rattle.mode_set.specs.AtKeys.{at, accepted, required, with_default, if_present, hierarchy_clash};
+ghost use Rattle.mode_set.specs.AtKeys.{rate_lp_clash, first_of};
 ghost use Rattle.mode_set.specs.Kept.{IsKeptEntry, fit_together};
 ghost use Rattle.std.specs.Result.{result_err};
 
@@ -105,7 +106,8 @@ pub(crate) fn check_fit(
     hierarchy: Hierarchy,
     rate_lp: Option<Rate>,
 ) -> Result<(), SettingsError>
-    ensures clash { result_err result ≡ first_of (hierarchy_clash (Ok shape) (Ok hierarchy) ∷ rate_lp_clash (Ok hierarchy) (Ok rate_lp) ∷ []) }
+    ensures clash { result_err result ≡ first_of (hierarchy_clash (Ok shape) (Ok hierarchy) ∷ rate_lp_clash
+        (Ok hierarchy) (Ok rate_lp) ∷ []) }
     ensures fits { is_ok result ≡ fit_together shape hierarchy rate_lp }
     ensures kept { IfOk result (λ u. IsKeptEntry shape hierarchy rate_lp) }
 {

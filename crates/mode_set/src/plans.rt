@@ -1,5 +1,6 @@
 // The entries of a plan.
-ghost use Rattle.std.specs.Prelude.{◌≡◌, ◌+◌, ◌<◌, ◌≤◌, ◌++◌, ◌∷◌, [], length, get_or, nat_lt, nat_le, IsTrue, IsFalse, find, reverse, is_some, None};
+ghost use Rattle.std.specs.Prelude.{◌≡◌, ◌+◌, ◌<◌, ◌≤◌, ◌++◌, ◌∷◌, [], length, get_or, nat_lt, nat_le, IsTrue, IsFalse};
+ghost use Rattle.std.specs.Prelude.{find, reverse, is_some, None};
 ghost use Rattle.std.specs.List.{list_all, list_any};
 ghost use Rattle.mode_set.specs.PlanList.{filler, may_follow};
 ghost use Rattle.mode_set.specs.Plans.{entries_of, no_plan};

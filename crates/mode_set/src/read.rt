@@ -1,5 +1,6 @@
 // Reading settings from a TOML document.
-ghost use Rattle.std.specs.Prelude.{◌≡◌, ℕ, IsSomeAnd, ◌≢◌, ◌≤◌, Some, None, IfOk, IfSome, IfErr, not, position, string_bytes, Err};
+ghost use Rattle.std.specs.Prelude.{◌≡◌, ℕ, IsSomeAnd, ◌≢◌, ◌≤◌, Some, None, IfOk, IfSome, IfErr, not, position};
+ghost use Rattle.std.specs.Prelude.{string_bytes, Err};
 ghost use Rattle.toml.specs.View.{table_view};
 ghost use Rattle.mode_set.specs.AtKeys.{document, cell_id_in, keys_of, first_of};
 ghost use Rattle.mode_set.specs.Document.{first_unknown, unknown, reasons, States, IsStatedBy, refusal};
@@ -97,7 +98,8 @@ fn settings_of(table: &Table) -> Result<Settings, SettingsError>
 // The table of a document.
 fn table_of(alloc: Global, bytes: &[u8]) -> Result<Table, SettingsError>
     ensures ok { IfOk result (λ t. document bytes.now ≡ Some (table_view t)) }
-    ensures err { IfErr result (λ e. e ≢ SettingsError.Memory → (e ≡ SettingsError.NotToml) × (document bytes.now ≡ None)) }
+    ensures err { IfErr result (λ e. e ≢ SettingsError.Memory → (e ≡ SettingsError.NotToml)
+        × (document bytes.now ≡ None)) }
 {
     match toml::table_from_slice(alloc, bytes) {
         Ok(table) => Ok(table),

@@ -1,7 +1,8 @@
 // The size of a symbol and a super-frame in each stream.
 ghost use Rattle.std.specs.Prelude.{◌≡◌, ◌*◌, ◌<◌, ◌≤◌, IsTrue};
 ghost use Rattle.mode_set.specs.Kept.{is_flat, is_qpsk};
-ghost use Rattle.mode_set.specs.StreamTable.{carriers, payload, label_bits, has_stream, width, steps_in_period, sent_in_period, rate, coded, need, words_per_super_frame};
+ghost use Rattle.mode_set.specs.StreamTable.{carriers, payload, label_bits, has_stream, width, steps_in_period};
+ghost use Rattle.mode_set.specs.StreamTable.{sent_in_period, rate, coded, need, words_per_super_frame};
 
 use crate::{Hierarchy, Mode, Rate, Settings, Shape, Stream};
 
@@ -142,7 +143,8 @@ impl Settings {
     pub fn need(&self, stream: Stream) -> u32
         ensures need { result ≡ need self.now stream }
         ensures few { result ≤ 31752 }
-        ensures whole { result * sent_in_period (rate self.now stream) ≡ coded self.now stream * steps_in_period (rate self.now stream) }
+        ensures whole { result * sent_in_period (rate self.now stream)
+            ≡ coded self.now stream * steps_in_period (rate self.now stream) }
     {
         let rate = self.rate(stream);
         self.coded(stream) * rate.steps_in_period() as u32 / rate.sent_in_period() as u32

@@ -1,6 +1,7 @@
 // The words that select a value in a settings document.
 ghost use Rattle.std.specs.Prelude.{◌≡◌, ℕ, List};
-ghost use Rattle.mode_set.specs.Values.{chosen, mode_words, shape_words, hierarchy_words, rate_words, guard_words, start_words};
+ghost use Rattle.mode_set.specs.Values.{chosen, mode_words, shape_words, hierarchy_words, rate_words, guard_words};
+ghost use Rattle.mode_set.specs.Values.{start_words};
 
 use crate::{Guard, Hierarchy, Mode, Rate, Shape, Start};
 

@@ -8,4 +8,5 @@ use Rattle.modulator.specs.State.{Transmitter, HasPut}
 -- the packets put depend only on the streams' first packets
 abbrev pub OtherStreams : Type 0
 OtherStreams = (t : Transmitter) (inputs other : Inputs) → HasPut t inputs
-    → ((σ : Stream) (i : ℕ) → i < by_stream t.hp t.lp σ → packet_at (inputs σ) i ≡ packet_at (other σ) i) → HasPut t other
+    → ((σ : Stream) (i : ℕ) → i < by_stream t.hp t.lp σ → packet_at (inputs σ) i ≡ packet_at (other σ) i)
+    → HasPut t other

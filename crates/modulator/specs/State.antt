@@ -1,5 +1,6 @@
 -- The visible state of a modulator, and its meaning.
-use Rattle.std.specs.Prelude.{◌≡◌, ℕ, ◌+◌, ◌/◌, ◌%◌, ◌^◌, ◌≤◌, Bool, List, [], ◌∷◌, ◌++◌, length, Option, Some, None, IfSome}
+use Rattle.std.specs.Prelude.{◌≡◌, ℕ, ◌+◌, ◌/◌, ◌%◌, ◌^◌, ◌≤◌, Bool, List, [], ◌∷◌, ◌++◌, length, Option, Some, None}
+use Rattle.std.specs.Prelude.{IfSome}
 use Rattle.mode_set.specs.StreamTable.{payload}
 use Rattle.mode_set.specs.declared.modes.Mode.{Mode}
 use Rattle.mode_set.specs.declared.modes.Stream.{Stream}
@@ -36,7 +37,14 @@ abbrev pub packets_in : ℕ → List Bool → ℕ
 packets_in taken waiting = (taken + length waiting) / 1632
 
 abbrev pub transmitter : Settings → ℕ → Parts → Transmitter
-transmitter s made parts = record { settings = s; made = made; hp = packets_in (steps_before s Hp made) parts.hp_waiting; lp = packets_in (steps_before s Lp made) parts.lp_waiting; parts = parts }
+transmitter s made parts = record {
+  settings = s;
+  made = made;
+  hp = packets_in (steps_before s Hp made)
+      parts.hp_waiting;
+  lp = packets_in (steps_before s Lp made) parts.lp_waiting;
+  parts = parts;
+}
 
 -- The invariant of a modulator. Its parts have the same settings and symbol, it has made at most 2^32 symbols, each
 -- stream has whole packets, and there is space for the labels of a symbol.

@@ -1,5 +1,6 @@
 // From packets to symbols.
-ghost use Rattle.std.specs.Prelude.{◌≡◌, ◌≢◌, ◌+◌, ◌*◌, ◌^◌, ◌<◌, ◌≤◌, ◌++◌, Some, None, IfOk, length, vec_capacity, vec_len};
+ghost use Rattle.std.specs.Prelude.{◌≡◌, ◌≢◌, ◌+◌, ◌*◌, ◌^◌, ◌<◌, ◌≤◌, ◌++◌, Some, None, IfOk, length, vec_capacity};
+ghost use Rattle.std.specs.Prelude.{vec_len};
 ghost use Rattle.mode_set.specs.StreamTable.{need};
 ghost use Rattle.mode_set.specs.declared.modes.Stream.TheVariants as streams;
 ghost use Rattle.transmission.specs.Transmission.{Inputs, by_stream, tx_symbol};
@@ -27,8 +28,10 @@ use ts_packet::Packet;
 // What the next symbol needs, given the pending bits.
 fn want_of(settings: &Settings, hp: &WaitBuf, lp: &WaitBuf) -> Want
     ensures hp { result ≡ Want.Hp → length hp.now < need settings.now streams.Hp }
-    ensures lp { result ≡ Want.Lp → (need settings.now streams.Hp ≤ length hp.now) × (length lp.now < need settings.now streams.Lp) }
-    ensures symbol { result ≡ Want.Symbol → (need settings.now streams.Hp ≤ length hp.now) × (need settings.now streams.Lp ≤ length lp.now) }
+    ensures lp { result ≡ Want.Lp → (need settings.now streams.Hp ≤ length hp.now)
+        × (length lp.now < need settings.now streams.Lp) }
+    ensures symbol { result ≡ Want.Symbol → (need settings.now streams.Hp ≤ length hp.now)
+        × (need settings.now streams.Lp ≤ length lp.now) }
     ensures hp_few { result ≡ Want.Hp → length hp.now < 31752 }
     ensures lp_few { result ≡ Want.Lp → length lp.now < 31752 }
 {
@@ -72,9 +75,24 @@ impl<M: Carriers> Model for Modulator<M> {
 
     ghost Value = { Transmitter };
 
-    ghost view = { λ m. transmitter m.settings m.made (record { hp_sender = m.hp.outer; lp_sender = m.lp.outer; hp_waiting = m.hp.waiting; lp_waiting = m.lp.waiting; inner = m.inner }) };
+    ghost view = { λ m. transmitter m.settings m.made (record {
+      hp_sender = m.hp.outer;
+      lp_sender = m.lp.outer;
+      hp_waiting = m.hp.waiting;
+      lp_waiting = m.lp.waiting;
+      inner
+          = m.inner;
+    }) };
 
-    ghost invariant = { λ m. IsKept M.MODE m.settings m.made (record { hp_sender = m.hp.outer; lp_sender = m.lp.outer; hp_waiting = m.hp.waiting; lp_waiting = m.lp.waiting; inner = m.inner }) m.out (vec_capacity m.labels) };
+    ghost invariant = { λ m. IsKept M.MODE m.settings m.made
+        (record {
+          hp_sender = m.hp.outer;
+          lp_sender = m.lp.outer;
+          hp_waiting = m.hp.waiting;
+          lp_waiting
+              = m.lp.waiting;
+          inner = m.inner;
+        }) m.out (vec_capacity m.labels) };
 }
 
 impl<M: Carriers> Modulator<M> {
@@ -116,8 +134,10 @@ impl<M: Carriers> Modulator<M> {
         ensures settings { self.new.settings ≡ self.old.settings }
         ensures made { self.new.made ≡ self.old.made }
         ensures counts { HasOneMore (wanted self.old) self.old self.new }
-        ensures put { (inputs : Inputs) → HasPut self.old inputs → IsNext self.old inputs packet.now → HasPut self.new inputs }
-        ensures stands { (packets : Inputs) → StandsFor self.old packets → StandsFor self.new (with_packet packets (wanted self.old) packet.now) }
+        ensures put { (inputs : Inputs) → HasPut self.old inputs → IsNext self.old inputs packet.now
+            → HasPut self.new inputs }
+        ensures stands { (packets : Inputs) → StandsFor self.old packets
+            → StandsFor self.new (with_packet packets (wanted self.old) packet.now) }
     {
         other_streams();
         steps();
@@ -144,7 +164,8 @@ impl<M: Carriers> Modulator<M> {
         ensures stands { (packets : Inputs) → StandsFor self.old packets → StandsFor self.new packets }
 
         // The bytes are those of the next symbol in every transmission that begins with the packets put.
-        ensures bytes { (inputs : Inputs) → HasPut self.old inputs → to.new.items ≡ to.old.items ++ tx_symbol self.old.settings inputs self.old.made }
+        ensures bytes { (inputs : Inputs) → HasPut self.old inputs → to.new.items ≡ to.old.items
+            ++ tx_symbol self.old.settings inputs self.old.made }
         ensures len { vec_len to.new ≡ vec_len to.old + 5 * M.K }
         ensures capacity { vec_capacity to.new ≡ vec_capacity to.old }
     {
@@ -181,7 +202,8 @@ impl<M: Carriers> Modulator<M> {
         ensures stands { (packets : Inputs) → StandsFor self.old packets → StandsFor self.new packets }
 
         // The bytes are those of the next symbol in every transmission that begins with the packets put.
-        ensures bytes { (inputs : Inputs) → HasPut self.old inputs → to.new ≡ tx_symbol self.old.settings inputs self.old.made }
+        ensures bytes { (inputs : Inputs) → HasPut self.old inputs → to.new
+            ≡ tx_symbol self.old.settings inputs self.old.made }
     {
         steps();
         super_frame_settings();

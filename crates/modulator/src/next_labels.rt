@@ -34,14 +34,21 @@ pub(crate) fn next_labels<M: Carriers>(
     ensures capacity { vec_capacity labels.new ≡ vec_capacity labels.old }
 
     ensures count { length labels.new.items ≡ payload inner.old.settings.mode }
-    ensures small { (q : ℕ) → q < payload inner.old.settings.mode → get_or labels.new.items q 0 < 2 ^ label_bits entry.now.shape }
+    ensures small { (q : ℕ) → q < payload inner.old.settings.mode
+        → get_or labels.new.items q 0 < 2 ^ label_bits entry.now.shape }
     ensures labels { (paths : Paths) → IsBefore inner.old paths
-        → take (need (with_entry inner.old.settings entry.now) Hp) hp.old ≡ input_bits (with_entry inner.old.settings entry.now) paths Hp
-        → take (need (with_entry inner.old.settings entry.now) Lp) lp.old ≡ input_bits (with_entry inner.old.settings entry.now) paths Lp
-        → Agree (with_entry inner.old.settings entry.now) (bits_of labels.new.items) (label_bit (with_entry inner.old.settings entry.now) odd (coded_bits (with_entry inner.old.settings entry.now) paths)) }
+        → take (need (with_entry inner.old.settings entry.now) Hp) hp.old
+        ≡ input_bits (with_entry inner.old.settings entry.now) paths Hp
+        → take (need (with_entry inner.old.settings entry.now) Lp) lp.old
+        ≡ input_bits (with_entry inner.old.settings entry.now) paths Lp
+        → Agree (with_entry inner.old.settings entry.now) (bits_of labels.new.items)
+        (label_bit (with_entry inner.old.settings entry.now) odd
+        (coded_bits (with_entry inner.old.settings entry.now) paths)) }
     ensures next { (paths : Paths) → IsBefore inner.old paths
-        → take (need (with_entry inner.old.settings entry.now) Hp) hp.old ≡ input_bits (with_entry inner.old.settings entry.now) paths Hp
-        → take (need (with_entry inner.old.settings entry.now) Lp) lp.old ≡ input_bits (with_entry inner.old.settings entry.now) paths Lp
+        → take (need (with_entry inner.old.settings entry.now) Hp) hp.old
+        ≡ input_bits (with_entry inner.old.settings entry.now) paths Hp
+        → take (need (with_entry inner.old.settings entry.now) Lp) lp.old
+        ≡ input_bits (with_entry inner.old.settings entry.now) paths Lp
         → IsBefore inner.new (behind (with_entry inner.old.settings entry.now) paths) }
 {
     labels.clear();

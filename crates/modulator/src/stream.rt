@@ -46,7 +46,8 @@ impl StreamTx {
     pub fn put(&mut self, packet: &Packet)
         requires room { length self.old.waiting + 1632 ≤ 36864 }
         ensures amount { length self.new.waiting ≡ length self.old.waiting + 1632 }
-        ensures holds { (packets : List (List ℕ)) (n taken : ℕ) → HoldsBits self.old.outer self.old.waiting packets n taken
+        ensures holds { (packets : List (List ℕ)) (n taken : ℕ)
+            → HoldsBits self.old.outer self.old.waiting packets n taken
             → packet.now ≡ packet_at packets n → HoldsBits self.new.outer self.new.waiting packets (n + 1) taken }
     {
         sending();

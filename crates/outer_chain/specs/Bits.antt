@@ -9,7 +9,8 @@ digit bit worth = cond bit worth 0
 
 -- the whole bytes of these bits
 unfoldable pub bytes_of : List Bool → List ℕ
-bytes_of (a ∷ b ∷ c ∷ d ∷ e ∷ f ∷ g ∷ h ∷ rest) = (digit a 128 + digit b 64 + digit c 32 + digit d 16 + digit e 8 + digit f 4 + digit g 2 + digit h 1) ∷ bytes_of rest
+bytes_of (a ∷ b ∷ c ∷ d ∷ e ∷ f ∷ g ∷ h ∷ rest) = (digit a 128 + digit b 64 + digit c 32 + digit d 16 + digit e 8 +
+    digit f 4 + digit g 2 + digit h 1) ∷ bytes_of rest
 bytes_of _ = []
 
 -- bit i of a stream of bytes
@@ -22,7 +23,8 @@ ByteOfBits = (byte : ℕ) (rest : List Bool) → byte < 256 → bytes_of (spelle
 
 -- the first n bits of a stream of bytes contain its first bytes
 abbrev pub FirstBits : Type 0
-FirstBits = (bytes : ℕ → ℕ) (n : ℕ) → ((p : ℕ) → bytes p < 256) → bytes_of (map (bit_of_stream bytes) (numbers n)) ≡ values bytes 0 (n / 8)
+FirstBits = (bytes : ℕ → ℕ) (n : ℕ) → ((p : ℕ) → bytes p < 256) → bytes_of (map (bit_of_stream bytes) (numbers n))
+    ≡ values bytes 0 (n / 8)
 
 -- more bits leave the earlier whole bytes unchanged
 abbrev pub MoreBits : Type 0

@@ -35,7 +35,8 @@ pub record BurstsOf (packets : List (List ℕ)) (received : List ℕ) : Type 0 w
   pub bursts : Bursts (outer_bytes packets (length received)) received
 
 -- a receiver of such bytes that has finished `done` words, and the next word decoded
-pub record NextOfBursts (receiver : Receiver) (packets : List (List ℕ)) (done : ℕ) (word : List ℕ) (outcome : Outcome) : Type 0 where
+pub record NextOfBursts (receiver : Receiver) (packets : List (List ℕ)) (done : ℕ) (word : List ℕ) (outcome : Outcome) :
+    Type 0 where
   pub bytes : List ℕ
   pub bursts : BurstsOf packets bytes
   pub out : List ℕ

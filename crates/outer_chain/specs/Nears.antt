@@ -14,12 +14,15 @@ near_of Bad word = None
 
 -- decoding a word finds its nearest codeword
 abbrev pub DecodedIsNear : Type 0
-DecodedIsNear = (old new : List ℕ) (outcome : Outcome) → length old ≡ 204 → Decoded old new outcome → IsNear old (near_of outcome new)
+DecodedIsNear = (old new : List ℕ) (outcome : Outcome) → length old ≡ 204 → Decoded old new outcome
+    → IsNear old (near_of outcome new)
 
 -- and the decoded word gives the same packet as the received word
 abbrev pub DecodedPacket : Type 0
-DecodedPacket = (old new : List ℕ) (outcome : Outcome) (phase : ℕ) → Decoded old new outcome → packet_of phase new (near_of outcome new) ≡ packet_of phase old (near_of outcome new)
+DecodedPacket = (old new : List ℕ) (outcome : Outcome) (phase : ℕ) → Decoded old new outcome
+    → packet_of phase new (near_of outcome new) ≡ packet_of phase old (near_of outcome new)
 
 -- a word counts as clean exactly if it is a codeword
 abbrev pub CleanIsCodeword : Type 0
-CleanIsCodeword = (word : List ℕ) (near : Option (List ℕ)) → length word ≡ 204 → IsNear word near → (is_clean word near ≡ true) ↔ IsCodeword word
+CleanIsCodeword = (word : List ℕ) (near : Option (List ℕ)) → length word ≡ 204 → IsNear word near
+    → (is_clean word near ≡ true) ↔ IsCodeword word

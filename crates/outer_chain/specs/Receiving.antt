@@ -29,5 +29,6 @@ undecoded bytes n = record { word = word_at bytes n; outcome = Bad }
 pub record Receives (receiver : Receiver) (bytes : List ℕ) : Type 0 where
   pub twelve : length receiver.words ≡ 2448
   pub next : receiver.next ≡ place_of (length bytes)
-  pub holds : (p : ℕ) → p < length bytes → length bytes ≤ p + 2448 → slice_index receiver.words (place_of p) ≡ slice_index bytes p
+  pub holds : (p : ℕ) → p < length bytes → length bytes ≤ p + 2448 → slice_index receiver.words (place_of p)
+      ≡ slice_index bytes p
   pub start : receiver.start ≡ 11 - length bytes / 204

@@ -1,9 +1,11 @@
 -- The output of a receiver whose words are decoded in parallel and finished in order.
-use Rattle.std.specs.Prelude.{◌≡◌, ℕ, ◌+◌, ◌<◌, ◌≤◌, Bool, true, false, not, cond, Option, Some, None, List, [], ◌∷◌, ◌++◌}
+use Rattle.std.specs.Prelude.{◌≡◌, ℕ, ◌+◌, ◌<◌, ◌≤◌, Bool, true, false, not, cond, Option, Some, None, List, [], ◌∷◌}
+use Rattle.std.specs.Prelude.{◌++◌}
 use Rattle.rs204.specs.Decoded.{Decoded}
 use Rattle.rs204.specs.declared.outcome.Outcome.{Outcome}
 use Rattle.rs204.specs.declared.outcome.Outcome.TheVariants.{Clean, Corrected, Bad}
-use Rattle.outer_chain.specs.Words.{word_at, word_count, IsNear, phase_of, phase_before, given_packet, packets_to, Packets, Tally, Tallies, tally_to, has}
+use Rattle.outer_chain.specs.Words.{word_at, word_count, IsNear, phase_of, phase_before, given_packet, packets_to}
+use Rattle.outer_chain.specs.Words.{Packets, Tally, Tallies, tally_to, has}
 use Rattle.outer_chain.specs.Nears.{near_of}
 use Rattle.outer_chain.specs.Receiving.{Receiver, Receives}
 
@@ -54,7 +56,8 @@ pub record Finished (receiver : Receiver) (bytes out : List ℕ) (tally : Tally)
 
 -- at the start
 abbrev pub NothingFinished : Type 0
-NothingFinished = (receiver : Receiver) → Receives receiver [] → receiver.phase ≡ None → Finished receiver [] [] no_words 0
+NothingFinished = (receiver : Receiver) → Receives receiver [] → receiver.phase ≡ None
+    → Finished receiver [] [] no_words 0
 
 -- one more byte, whether it ends a word or not
 abbrev pub TookByte : Type 0
@@ -63,13 +66,16 @@ TookByte = (old new : Receiver) (bytes out : List ℕ) (tally : Tally) (done byt
 
 -- the next word is finished
 abbrev pub FinishedWord : Type 0
-FinishedWord = (old new : Receiver) (bytes out after decoded : List ℕ) (tally : Tally) (outcome : Outcome) (done : ℕ) → Finished old bytes out tally done → done < word_count bytes → Receives new bytes
+FinishedWord = (old new : Receiver) (bytes out after decoded : List ℕ) (tally : Tally) (outcome : Outcome) (done : ℕ)
+    → Finished old bytes out tally done → done < word_count bytes → Receives new bytes
     → Decoded (word_at bytes done) decoded outcome → new.phase ≡ phase_of (near_of outcome decoded) old.phase
-    → after ≡ out ++ bytes_given (given_packet new.phase decoded (near_of outcome decoded)) → Finished new bytes after (counted tally outcome new.phase) (done + 1)
+    → after ≡ out ++ bytes_given (given_packet new.phase decoded (near_of outcome decoded))
+    → Finished new bytes after (counted tally outcome new.phase) (done + 1)
 
 -- all words are finished
 abbrev pub AllFinished : Type 0
-AllFinished = (receiver : Receiver) (bytes out : List ℕ) (tally : Tally) → Finished receiver bytes out tally (word_count bytes) → Packets bytes out × Tallies bytes tally
+AllFinished = (receiver : Receiver) (bytes out : List ℕ) (tally : Tally)
+    → Finished receiver bytes out tally (word_count bytes) → Packets bytes out × Tallies bytes tally
 
 -- more bytes leave a waiting word unchanged
 abbrev pub WordStays : Type 0

@@ -1,6 +1,7 @@
 -- Received words, and the packets decoded from them (EN 300 744, 4.3.1 and 4.3.2, inverted; start-up words, phases and
 -- marks are the profile of this project).
-use Rattle.std.specs.Prelude.{◌≡◌, ℕ, zero, suc, ◌+◌, ◌-◌, ◌*◌, ◌/◌, ◌%◌, ◌<◌, ◌≤◌, Bool, true, false, cond, ◌==◌, not, ◌&&◌, Option, Some, None, List, [], ◌++◌, length, take, slice_index}
+use Rattle.std.specs.Prelude.{◌≡◌, ℕ, zero, suc, ◌+◌, ◌-◌, ◌*◌, ◌/◌, ◌%◌, ◌<◌, ◌≤◌, Bool, true, false, cond, ◌==◌, not}
+use Rattle.std.specs.Prelude.{◌&&◌, Option, Some, None, List, [], ◌++◌, length, take, slice_index}
 use Rattle.ts_packet.specs.Packet.{marked}
 use Rattle.dispersal.specs.Packet.{undone}
 use Rattle.rs204.specs.Codes.{IsCodeword, distance}

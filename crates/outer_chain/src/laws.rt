@@ -4,7 +4,8 @@ ghost use Rattle.outer_chain.specs.SendingLaws.{SameBeginning, MorePacketsSent, 
 ghost use Rattle.outer_chain.specs.Bits.{ByteOfBits, FirstBits, MoreBits};
 ghost use Rattle.outer_chain.specs.Nears.{CleanIsCodeword, DecodedIsNear, DecodedPacket};
 ghost use Rattle.outer_chain.specs.Running.{NothingFinished, TookByte, FinishedWord, AllFinished, WordStays};
-ghost use Rattle.outer_chain.specs.Laws.{OuterAreBytes, OwnBytes, OwnTally, BurstNear, BurstSameNear, BurstBeginning, BurstPhases, BurstPackets, OneNear, OnePackets, OneTally, MorePackets};
+ghost use Rattle.outer_chain.specs.Laws.{OuterAreBytes, OwnBytes, OwnTally, BurstNear, BurstSameNear, BurstBeginning};
+ghost use Rattle.outer_chain.specs.Laws.{BurstPhases, BurstPackets, OneNear, OnePackets, OneTally, MorePackets};
 
 /// What is sent for the first packets does not depend on later ones.
 pub fn sending()

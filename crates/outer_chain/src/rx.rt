@@ -1,6 +1,7 @@
 // The receiver of the outer code.
 
-ghost use Rattle.std.specs.Prelude.{◌≡◌, ◌<◌, ◌≤◌, ◌+◌, ◌-◌, ◌*◌, ◌%◌, ◌↔◌, ℕ, List, [], ◌∷◌, ◌++◌, length, take, drop, Some, IfOk, IfSome, IsSome, vec_len, vec_capacity};
+ghost use Rattle.std.specs.Prelude.{◌≡◌, ◌<◌, ◌≤◌, ◌+◌, ◌-◌, ◌*◌, ◌%◌, ◌↔◌, ℕ, List, [], ◌∷◌, ◌++◌, length, take, drop};
+ghost use Rattle.std.specs.Prelude.{Some, IfOk, IfSome, IsSome, vec_len, vec_capacity};
 ghost use Rattle.outer_chain.specs.Words.{word_at, word_count, phase_of, given_packet, packet_of, has, IsNear};
 ghost use Rattle.outer_chain.specs.Nears.{near_of};
 ghost use Rattle.outer_chain.specs.Receiving.{EndsWord, Receives, undecoded};
@@ -56,7 +57,8 @@ impl Model for OuterRx {
 
     ghost view = { λ r. record { words = r.words.items; next = r.next; start = r.start; phase = r.phase } };
 
-    ghost invariant = { λ r. (length r.words.items ≡ 2448) × (r.next < 2448) × (r.filled ≡ r.next % 204) × ForSome r.phase (λ f. f < 8) };
+    ghost invariant = { λ r. (length r.words.items ≡ 2448) × (r.next < 2448) × (r.filled ≡ r.next % 204)
+        × ForSome r.phase (λ f. f < 8) };
 }
 
 // Whether the word is a codeword after its decoding.
@@ -127,7 +129,8 @@ fn end_word(words: &[u8], first: usize, start: &mut u8, slots: &mut Vec<WordSlot
     ensures capacity { vec_capacity slots.new ≡ vec_capacity slots.old }
     ensures start { start.new ≡ start.old - 1 }
     ensures none { 0 < start.old → slots.new.items ≡ slots.old.items }
-    ensures word { start.old ≡ 0 → slots.new.items ≡ slots.old.items ++ record { word = take 204 (drop first words.now); outcome = Outcome.Bad } ∷ [] }
+    ensures word { start.old ≡ 0 → slots.new.items ≡ slots.old.items
+        ++ record { word = take 204 (drop first words.now); outcome = Outcome.Bad } ∷ [] }
 {
     if *start > 0 {
         *start -= 1;
@@ -160,9 +163,12 @@ impl OuterRx {
     pub fn take_byte(&mut self, byte: u8) -> Option<WordSlot>
         ensures stands { (bytes : List ℕ) → Receives self.old bytes → Receives self.new (bytes ++ byte ∷ []) }
         ensures ends { (bytes : List ℕ) → Receives self.old bytes → IsSome result ↔ EndsWord (bytes ++ byte ∷ []) }
-        ensures word { (bytes : List ℕ) → Receives self.old bytes → IfSome result (λ slot. slot.word ≡ word_at (bytes ++ byte ∷ []) (word_count (bytes ++ byte ∷ []) - 1)) }
+        ensures word { (bytes : List ℕ) → Receives self.old bytes
+            → IfSome result (λ slot. slot.word ≡ word_at (bytes ++ byte ∷ []) (word_count (bytes ++ byte ∷ []) - 1)) }
         ensures undecoded { IfSome result (λ slot. slot.outcome ≡ Outcome.Bad) }
-        ensures bursts { (bytes : List ℕ) (packets : List (List ℕ)) → Receives self.old bytes → BurstsOf packets (bytes ++ byte ∷ []) → IfSome result (λ slot. IsNear slot.word (Some (code_at packets (word_count (bytes ++ byte ∷ []) - 1)))) }
+        ensures bursts { (bytes : List ℕ) (packets : List (List ℕ)) → Receives self.old bytes
+            → BurstsOf packets (bytes ++ byte ∷ []) → IfSome result (λ slot. IsNear slot.word
+            (Some (code_at packets (word_count (bytes ++ byte ∷ []) - 1)))) }
         ensures phase { self.new.phase ≡ self.old.phase }
     {
         let place = self.next;
@@ -193,10 +199,14 @@ impl OuterRx {
         requires room { vec_len slots.old < vec_capacity slots.old }
         ensures capacity { vec_capacity slots.new ≡ vec_capacity slots.old }
         ensures stands { (bytes : List ℕ) → Receives self.old bytes → Receives self.new (bytes ++ byte ∷ []) }
-        ensures word { (bytes : List ℕ) → Receives self.old bytes → EndsWord (bytes ++ byte ∷ []) → slots.new.items ≡ slots.old.items ++ undecoded (bytes ++ byte ∷ []) (word_count (bytes ++ byte ∷ []) - 1) ∷ [] }
-        ensures none { (bytes : List ℕ) → Receives self.old bytes → (EndsWord (bytes ++ byte ∷ []) → ⊥) → slots.new.items ≡ slots.old.items }
-        ensures bursts { (bytes : List ℕ) (packets : List (List ℕ)) → Receives self.old bytes → BurstsOf packets (bytes ++ byte ∷ []) → EndsWord (bytes ++ byte ∷ [])
-            → IsNear (word_at (bytes ++ byte ∷ []) (word_count (bytes ++ byte ∷ []) - 1)) (Some (code_at packets (word_count (bytes ++ byte ∷ []) - 1))) }
+        ensures word { (bytes : List ℕ) → Receives self.old bytes → EndsWord (bytes ++ byte ∷ []) → slots.new.items
+            ≡ slots.old.items ++ undecoded (bytes ++ byte ∷ []) (word_count (bytes ++ byte ∷ []) - 1) ∷ [] }
+        ensures none { (bytes : List ℕ) → Receives self.old bytes → (EndsWord (bytes ++ byte ∷ []) → ⊥)
+            → slots.new.items ≡ slots.old.items }
+        ensures bursts { (bytes : List ℕ) (packets : List (List ℕ)) → Receives self.old bytes
+            → BurstsOf packets (bytes ++ byte ∷ []) → EndsWord (bytes ++ byte ∷ [])
+            → IsNear (word_at (bytes ++ byte ∷ []) (word_count (bytes ++ byte ∷ []) - 1))
+            (Some (code_at packets (word_count (bytes ++ byte ∷ []) - 1))) }
         ensures phase { self.new.phase ≡ self.old.phase }
     {
         let place = self.next;
@@ -218,8 +228,11 @@ impl OuterRx {
         ensures phase { self.new.phase ≡ phase_of (near_of slot.now.outcome slot.now.word) self.old.phase }
         ensures packet { result ≡ given_packet self.new.phase slot.now.word (near_of slot.now.outcome slot.now.word) }
         ensures stands { (bytes : List ℕ) → Receives self.old bytes → Receives self.new bytes }
-        ensures burst_phase { (packets : List (List ℕ)) (done : ℕ) → NextOfBursts self.old packets done slot.now.word slot.now.outcome → self.new.phase ≡ Some (done % 8) }
-        ensures burst_packet { (packets : List (List ℕ)) (done : ℕ) → NextOfBursts self.old packets done slot.now.word slot.now.outcome → result ≡ Some (packet_at packets done) }
+        ensures burst_phase { (packets : List (List ℕ)) (done : ℕ)
+            → NextOfBursts self.old packets done slot.now.word slot.now.outcome → self.new.phase ≡ Some (done % 8) }
+        ensures burst_packet { (packets : List (List ℕ)) (done : ℕ)
+            → NextOfBursts self.old packets done slot.now.word slot.now.outcome → result
+            ≡ Some (packet_at packets done) }
     {
         let phase = phase_after(slot, self.phase);
         self.phase = phase;

@@ -40,9 +40,12 @@ impl OuterTx {
 
     /// Takes one packet more, and gives the next 204 interleaved bytes.
     pub fn take(&mut self, packet: &Packet) -> [u8; 204]
-        ensures sends { (packets : List (List ℕ)) → Sends self.old packets → Sends self.new (packets ++ packet.now ∷ []) }
-        ensures bytes { (packets : List (List ℕ)) → Sends self.old packets → result ≡ values (outer_byte (packets ++ packet.now ∷ [])) (204 * length packets) 204 }
-        ensures next { (packets : List (List ℕ)) → Sends self.old packets → sent_bytes (packets ++ packet.now ∷ []) ≡ sent_bytes packets ++ result }
+        ensures sends { (packets : List (List ℕ)) → Sends self.old packets
+            → Sends self.new (packets ++ packet.now ∷ []) }
+        ensures bytes { (packets : List (List ℕ)) → Sends self.old packets → result
+            ≡ values (outer_byte (packets ++ packet.now ∷ [])) (204 * length packets) 204 }
+        ensures next { (packets : List (List ℕ)) → Sends self.old packets → sent_bytes (packets ++ packet.now ∷ [])
+            ≡ sent_bytes packets ++ result }
     {
         let mut word = encode(&self.dispersal.apply(packet));
         self.interleaver.take(&mut word);

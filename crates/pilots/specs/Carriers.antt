@@ -1,5 +1,6 @@
 -- The kind of each carrier of a symbol (EN 300 744, 4.4, 4.5.3, 4.5.4 and 4.6).
-use Rattle.std.specs.Prelude.{◌≡◌, ℕ, ◌+◌, ◌*◌, ◌%◌, ◌<◌, ◌↔◌, ◌==◌, Bool, not, ◌||◌, if◌then◌else◌, List, [], ◌∷◌, map, filter, flat_map, count_by, slice_index}
+use Rattle.std.specs.Prelude.{◌≡◌, ℕ, ◌+◌, ◌*◌, ◌%◌, ◌<◌, ◌↔◌, ◌==◌, Bool, not, ◌||◌, if◌then◌else◌, List, [], ◌∷◌, map}
+use Rattle.std.specs.Prelude.{filter, flat_map, count_by, slice_index}
 use Rattle.spec_words.specs.Words.{numbers, is_among}
 use Rattle.mode_set.specs.StreamTable.{carriers, payload}
 use Rattle.mode_set.specs.declared.modes.Mode.{Mode}
@@ -9,7 +10,9 @@ use Rattle.pilots.specs.declared.carrier_kind.CarrierKind.TheVariants.{Continual
 
 -- the continual pilots of the 2K mode (4.5.4)
 abbrev pub continual_2k : List ℕ
-continual_2k = 0 ∷ 48 ∷ 54 ∷ 87 ∷ 141 ∷ 156 ∷ 192 ∷ 201 ∷ 255 ∷ 279 ∷ 282 ∷ 333 ∷ 432 ∷ 450 ∷ 483 ∷ 525 ∷ 531 ∷ 618 ∷ 636 ∷ 714 ∷ 759 ∷ 765 ∷ 780 ∷ 804 ∷ 873 ∷ 888 ∷ 918 ∷ 939 ∷ 942 ∷ 969 ∷ 984 ∷ 1050 ∷ 1101 ∷ 1107 ∷ 1110 ∷ 1137 ∷ 1140 ∷ 1146 ∷ 1206 ∷ 1269 ∷ 1323 ∷ 1377 ∷ 1491 ∷ 1683 ∷ 1704 ∷ []
+continual_2k = 0 ∷ 48 ∷ 54 ∷ 87 ∷ 141 ∷ 156 ∷ 192 ∷ 201 ∷ 255 ∷ 279 ∷ 282 ∷ 333 ∷ 432 ∷ 450 ∷ 483 ∷ 525 ∷ 531 ∷ 618
+    ∷ 636 ∷ 714 ∷ 759 ∷ 765 ∷ 780 ∷ 804 ∷ 873 ∷ 888 ∷ 918 ∷ 939 ∷ 942 ∷ 969 ∷ 984 ∷ 1050 ∷ 1101 ∷ 1107 ∷ 1110 ∷ 1137
+    ∷ 1140 ∷ 1146 ∷ 1206 ∷ 1269 ∷ 1323 ∷ 1377 ∷ 1491 ∷ 1683 ∷ 1704 ∷ []
 
 -- the TPS carriers of the 2K mode (4.6)
 abbrev pub tps_2k : List ℕ
@@ -52,4 +55,5 @@ kind m l k =
 
 -- k is the q-th payload carrier exactly if its kind says so
 abbrev pub AreNumbered : Mode → ℕ → Type 0
-AreNumbered m l = (k q : ℕ) → k < carriers m → (kind m l k ≡ Payload q) ↔ ((q < payload m) × (slice_index (payload_carriers m l) q ≡ k))
+AreNumbered m l = (k q : ℕ) → k < carriers m → (kind m l k ≡ Payload q) ↔ ((q < payload m) ×
+    (slice_index (payload_carriers m l) q ≡ k))

@@ -30,7 +30,8 @@ payload_places symbol = get_or PAYLOAD_CARRIERS symbol []
 
 -- the number of members of a set below a carrier
 unfoldable pub rank : List ℕ → List ℕ → ℕ → ℕ
-rank set below place = slice_index below (place / 64) + count_by (is_set (slice_index set (place / 64))) (numbers (place % 64))
+rank set below place = slice_index below (place / 64) + count_by (is_set (slice_index set (place / 64))) (numbers
+    (place % 64))
 
 -- whether a carrier is neither a pilot nor a TPS carrier
 unfoldable pub is_free : ℕ → ℕ → Bool

@@ -1,5 +1,6 @@
 -- The laws of puncturing.
-use Rattle.std.specs.Prelude.{◌≡◌, ℕ, ◌+◌, ◌-◌, ◌*◌, ◌<◌, ◌≤◌, Bool, true, false, ◌||◌, if◌then◌else◌, List, ◌++◌, drop, length, get_or, Some, None, option_map}
+use Rattle.std.specs.Prelude.{◌≡◌, ℕ, ◌+◌, ◌-◌, ◌*◌, ◌<◌, ◌≤◌, Bool, true, false, ◌||◌, if◌then◌else◌, List, ◌++◌, drop}
+use Rattle.std.specs.Prelude.{length, get_or, Some, None, option_map}
 use Rattle.code_paths.specs.Paths.{parity_x, parity_y}
 use Rattle.mode_set.specs.StreamTable.{steps_in_period, sent_in_period}
 use Rattle.mode_set.specs.declared.modes.Rate.{Rate}
@@ -10,13 +11,15 @@ use Rattle.puncture.specs.Steps.{is_sent, number_of, sent_before, sent_as, kind_
 -- step t of a path sends the bits that follow those of the earlier steps
 abbrev pub StepsSendInOrder : Type 0
 StepsSendInOrder = (r : Rate) (path : ℕ → Bool) (t : ℕ)
-    → bits_of_step r t (parity_x (window path t)) (parity_y (window path t)) ≡ sent_bits r path (sent_before r t) (sent_before r (t + 1))
+    → bits_of_step r t (parity_x (window path t)) (parity_y (window path t))
+    ≡ sent_bits r path (sent_before r t) (sent_before r (t + 1))
 
 -- the numbers of the sent bits of step t, and how many there are
 pub record IsNumbered (r : Rate) (t : ℕ) : Type 0 where
   pub x : number_of r X t ≡ (if is_sent r X t then Some (sent_before r t) else None)
   pub y : number_of r Y t ≡ (if is_sent r Y t then Some (sent_before r t + (if is_sent r X t then 1 else 0)) else None)
-  pub grows : sent_before r (t + 1) ≡ sent_before r t + (if is_sent r X t then 1 else 0) + (if is_sent r Y t then 1 else 0)
+  pub grows : sent_before r (t + 1) ≡ sent_before r t + (if is_sent r X t then 1 else 0)
+      + (if is_sent r Y t then 1 else 0)
   pub some : (is_sent r X t || is_sent r Y t) ≡ true
 
 abbrev pub StepsAreNumbered : Type 0
@@ -25,7 +28,8 @@ StepsAreNumbered = (r : Rate) (t : ℕ) → IsNumbered r t
 -- whole periods before a step shift its numbers by the bits of those periods
 pub record IsShifted (r : Rate) (q t : ℕ) : Type 0 where
   pub before : sent_before r (q * steps_in_period r + t) ≡ q * sent_in_period r + sent_before r t
-  pub numbers : (xy : ℕ → Coded) → number_of r xy (q * steps_in_period r + t) ≡ option_map (λ n. q * sent_in_period r + n) (number_of r xy t)
+  pub numbers : (xy : ℕ → Coded) → number_of r xy (q * steps_in_period r + t)
+      ≡ option_map (λ n. q * sent_in_period r + n) (number_of r xy t)
 
 abbrev pub PeriodsShift : Type 0
 PeriodsShift = (r : Rate) (q t : ℕ) → IsShifted r q t

@@ -13,8 +13,10 @@ sent_of_steps r t (suc n) = needed r t + sent_of_steps r (t + 1) n
 -- the bits sent in eight steps from a place of the period on: for a byte of X with Y all zero, and for a byte of Y with
 -- X all zero
 pub record AreWords (r : Rate) (place byte : ℕ) (words : ℕ × ℕ) : Type 0 where
-  pub x : (t : ℕ) → place ≡ t % steps_in_period r → spelled (sent_of_steps r t 8) words.0 ≡ bits_of_steps r t (spelled 8 byte) (spelled 8 0)
-  pub y : (t : ℕ) → place ≡ t % steps_in_period r → spelled (sent_of_steps r t 8) words.1 ≡ bits_of_steps r t (spelled 8 0) (spelled 8 byte)
+  pub x : (t : ℕ) → place ≡ t % steps_in_period r → spelled (sent_of_steps r t 8) words.0
+      ≡ bits_of_steps r t (spelled 8 byte) (spelled 8 0)
+  pub y : (t : ℕ) → place ≡ t % steps_in_period r → spelled (sent_of_steps r t 8) words.1
+      ≡ bits_of_steps r t (spelled 8 0) (spelled 8 byte)
 
 -- the first n table entries: 256 bytes for each place
 pub record AreAllWords (r : Rate) (n : ℕ) (words : List (ℕ × ℕ)) : Type 0 where

@@ -1,5 +1,6 @@
 -- Puncturing: the coded bits that are sent, and their order (EN 300 744, 4.3.3).
-use Rattle.std.specs.Prelude.{ℕ, ◌+◌, ◌-◌, ◌*◌, ◌/◌, ◌%◌, nat_lt, Bool, false, if◌then◌else◌, List, [], ◌∷◌, map, slice_index_or}
+use Rattle.std.specs.Prelude.{ℕ, ◌+◌, ◌-◌, ◌*◌, ◌/◌, ◌%◌, nat_lt, Bool, false, if◌then◌else◌, List, [], ◌∷◌, map}
+use Rattle.std.specs.Prelude.{slice_index_or}
 use Rattle.std.specs.List.{range_with_len}
 use Rattle.spec_words.specs.Bits.{is_set}
 use Rattle.code_paths.specs.Paths.{parity_x, parity_y}
@@ -35,7 +36,8 @@ coded_bit path t (Y j) = parity_y (window path (t + j - 1))
 
 -- sent bit n of a path
 abbrev pub sent_bit : Rate → (ℕ → Bool) → ℕ → Bool
-sent_bit r path n = coded_bit path (steps_in_period r * (n / sent_in_period r)) (slice_index_or (sent r) (n % sent_in_period r) (X 1))
+sent_bit r path n = coded_bit path (steps_in_period r * (n / sent_in_period r))
+    (slice_index_or (sent r) (n % sent_in_period r) (X 1))
 
 -- the sent bits of a path with numbers a to b - 1
 abbrev pub sent_bits : Rate → (ℕ → Bool) → ℕ → ℕ → List Bool

@@ -1,5 +1,6 @@
 -- The sent bits of each step (EN 300 744, 4.3.3).
-use Rattle.std.specs.Prelude.{◌≡◌, ℕ, ◌+◌, ◌-◌, ◌*◌, ◌/◌, ◌%◌, ◌==◌, nat_le, Bool, true, false, if◌then◌else◌, List, [], ◌∷◌, ◌++◌, count_by, position, Option, Some, None, option_map, slice_index_or}
+use Rattle.std.specs.Prelude.{◌≡◌, ℕ, ◌+◌, ◌-◌, ◌*◌, ◌/◌, ◌%◌, ◌==◌, nat_le, Bool, true, false, if◌then◌else◌, List, []}
+use Rattle.std.specs.Prelude.{◌∷◌, ◌++◌, count_by, position, Option, Some, None, option_map, slice_index_or}
 use Rattle.std.specs.List.{list_any}
 use Rattle.mode_set.specs.StreamTable.{steps_in_period, sent_in_period}
 use Rattle.mode_set.specs.declared.modes.Rate.{Rate}
@@ -24,7 +25,8 @@ is_sent r xy t = list_any (same_coded (xy (t % steps_in_period r + 1))) (sent r)
 
 -- the number of the X or the Y of step t among all sent bits, if it is sent
 abbrev pub number_of : Rate → (ℕ → Coded) → ℕ → Option ℕ
-number_of r xy t = option_map (λ i. t / steps_in_period r * sent_in_period r + i) (position (same_coded (xy (t % steps_in_period r + 1))) (sent r))
+number_of r xy t = option_map (λ i. t / steps_in_period r * sent_in_period r + i)
+    (position (same_coded (xy (t % steps_in_period r + 1))) (sent r))
 
 -- sent bit n as a coded bit of its period
 abbrev pub sent_as : Rate → ℕ → Coded
@@ -41,7 +43,8 @@ step_of r n = n / sent_in_period r * steps_in_period r + (step_in_period (sent_a
 
 -- the number of bits sent in the first t steps
 abbrev pub sent_before : Rate → ℕ → ℕ
-sent_before r t = t / steps_in_period r * sent_in_period r + count_by (λ c. nat_le (step_in_period c) (t % steps_in_period r)) (sent r)
+sent_before r t = t / steps_in_period r * sent_in_period r + count_by (λ c. nat_le (step_in_period c)
+    (t % steps_in_period r)) (sent r)
 
 -- the sent ones of two coded bits, X before Y
 abbrev pub bits_sent : Bool → Bool → Bool → Bool → List Bool

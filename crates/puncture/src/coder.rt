@@ -98,7 +98,8 @@ impl PuncturedEncoder {
     /// Codes a byte, the most significant bit first, and appends what is sent of its eight steps, 8 to 16 bits. There
     /// must be room for sixteen.
     ///
-    /// A queue that holds sent bits of the path goes on to hold them. `of_bytes` says so of byte `m` of a stream of bytes.
+    /// A queue that holds sent bits of the path goes on to hold them. `of_bytes` says so of byte `m` of a stream of
+    /// bytes.
     pub fn push_byte<const N: usize>(&mut self, byte: u8, to: &mut BitBuf<N>)
         requires room { length to.old + 16 ≤ 8 * N }
         ensures few { length to.new ≤ length to.old + 16 }
@@ -111,7 +112,8 @@ impl PuncturedEncoder {
             → spelled 8 byte ≡ bits_from path (t + 6) 8
             → a ≤ sent_before r t → to.old ≡ sent_bits r path a (sent_before r t)
             → to.new ≡ sent_bits r path a (sent_before r (t + 8)) }
-        ensures of_bytes { (r : AnyRate) (bytes : ℕ → ℕ) (m a : ℕ) → IsAtPath self.old r (path_of bytes) (8 * m) → byte ≡ bytes m
+        ensures of_bytes { (r : AnyRate) (bytes : ℕ → ℕ) (m a : ℕ) → IsAtPath self.old r (path_of bytes) (8 * m) → byte
+            ≡ bytes m
             → a ≤ sent_before r (8 * m) → to.old ≡ sent_bits r (path_of bytes) a (sent_before r (8 * m))
             → IsAtPath self.new r (path_of bytes) (8 * (m + 1))
             × (to.new ≡ sent_bits r (path_of bytes) a (sent_before r (8 * (m + 1)))) }
@@ -120,7 +122,8 @@ impl PuncturedEncoder {
         push_bits(bits, to);
     }
 
-    /// Codes a byte as [`PuncturedEncoder::push_byte`] does, and appends what is sent of it to few bits in a word. There
+    /// Codes a byte as [`PuncturedEncoder::push_byte`] does, and appends what is sent of it to few bits in a word.
+    /// There
     /// must be room for sixteen.
     pub fn push_byte_in_word(&mut self, byte: u8, to: &mut BitWord)
         requires room { length to.old + 16 ≤ 32 }

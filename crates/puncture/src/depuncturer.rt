@@ -1,7 +1,8 @@
 // From the costs of the sent bits to those of each step's two coded bits.
 ghost use Rattle.std.specs.Prelude.{◌≡◌, ◌+◌, ◌<◌, ◌≤◌, ℕ, if◌then◌else◌};
 ghost use Rattle.puncture.specs.SentBits.{X, Y};
-ghost use Rattle.puncture.specs.Steps.{needed, costs_of_x, costs_of_y, costs_at, number_of, sent_before, IsAtStep, has_x, has_y};
+ghost use Rattle.puncture.specs.Steps.{needed, costs_of_x, costs_of_y, costs_at, number_of, sent_before, IsAtStep};
+ghost use Rattle.puncture.specs.Steps.{has_x, has_y};
 ghost use Rattle.mode_set.specs.declared.modes.Rate.{Rate as AnyRate};
 
 use crate::Sent;
@@ -56,7 +57,8 @@ impl Depuncturer {
 
     /// The costs of the next step's X and Y, out of the costs of the next sent bits, each bit's for 0 and for 1.
     ///
-    /// A bit that is not sent costs 0 either way, and `second` is not used where one bit is needed. Each cost is at most
+    /// A bit that is not sent costs 0 either way, and `second` is not used where one bit is needed. Each cost is at
+    /// most
     /// 4095.
     pub fn pair(&mut self, first: (u16, u16), second: (u16, u16)) -> CostPair
         requires first { (first.0 ≤ 4095) × (first.1 ≤ 4095) }
@@ -66,7 +68,8 @@ impl Depuncturer {
         ensures next { (r : AnyRate) (t : ℕ) → IsAtStep self.old r t → IsAtStep self.new r (t + 1) }
         ensures numbered { (r : AnyRate) (costs : ℕ → ℕ × ℕ) (t : ℕ) → IsAtStep self.old r t
             → first ≡ costs (sent_before r t) → (needed r t ≡ 2 → second ≡ costs (sent_before r t + 1))
-            → ((result.x0, result.x1) ≡ costs_at costs (number_of r X t)) × ((result.y0, result.y1) ≡ costs_at costs (number_of r Y t)) }
+            → ((result.x0, result.x1) ≡ costs_at costs (number_of r X t))
+            × ((result.y0, result.y1) ≡ costs_at costs (number_of r Y t)) }
     {
         let sent = sent_in_place(self.rate, self.place);
         self.place = next_place(self.rate, self.place);

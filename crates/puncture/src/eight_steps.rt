@@ -34,7 +34,8 @@ pub(crate) struct Bits {
 // The bits, and behind them what is sent of a step.
 fn with_sent(bits: Bits, sent: Sent, x: bool, y: bool) -> Bits
     requires room { bits.count ≤ 14 }
-    ensures bits { spelled result.count result.word ≡ spelled bits.count bits.word ++ bits_sent (has_x sent) (has_y sent) x y }
+    ensures bits { spelled result.count result.word ≡ spelled bits.count bits.word
+        ++ bits_sent (has_x sent) (has_y sent) x y }
     ensures few { result.count ≤ bits.count + 2 }
 {
     match sent {
@@ -56,7 +57,8 @@ fn with_sent(bits: Bits, sent: Sent, x: bool, y: bool) -> Bits
 // What is sent of eight steps, and the place in the period after them, step by step.
 pub(crate) fn punctured(rate: Rate, start: u8, x: u8, y: u8) -> (Bits, u8)
     requires { start < steps_in_period rate }
-    ensures bits { (t : ℕ) → start ≡ t % steps_in_period rate → spelled result.0.count result.0.word ≡ bits_of_steps rate t (spelled 8 x) (spelled 8 y) }
+    ensures bits { (t : ℕ) → start ≡ t % steps_in_period rate → spelled result.0.count result.0.word
+        ≡ bits_of_steps rate t (spelled 8 x) (spelled 8 y) }
     ensures few { result.0.count ≤ 16 }
     ensures within { result.1 < steps_in_period rate }
     ensures next { (t : ℕ) → start ≡ t % steps_in_period rate → result.1 ≡ (t + 8) % steps_in_period rate }

@@ -1,5 +1,6 @@
 // The laws of puncturing, as contracts of functions that do nothing.
-ghost use Rattle.puncture.specs.Laws.{StepsSendInOrder, StepsAreNumbered, PeriodsShift, SentBitsHaveSteps, SentBitsAreRuns, ListsArePaths, BytesArePaths};
+ghost use Rattle.puncture.specs.Laws.{StepsSendInOrder, StepsAreNumbered, PeriodsShift, SentBitsHaveSteps};
+ghost use Rattle.puncture.specs.Laws.{SentBitsAreRuns, ListsArePaths, BytesArePaths};
 
 /// Step after step, the bits sent of a path are its sent bits in order.
 pub fn steps_send_in_order()

@@ -8,7 +8,8 @@ ghost use Rattle.puncture.specs.Periods.{AreAllWords, AreEnds, AreWords, IsEnd, 
 use crate::eight_steps::{Bits, punctured};
 use mode_set::Rate;
 
-// For each place of a rate's period and each byte: what is sent of eight steps from there on whose X is the byte and whose
+// For each place of a rate's period and each byte: what is sent of eight steps from there on whose X is the byte and
+// whose
 // Y is zeros, and the other way round; and for each place how many bits these are, and the place behind the steps.
 #[derive(Debug, Drop)]
 pub(crate) struct PeriodTable {
@@ -67,7 +68,8 @@ impl PeriodTable {
     pub(crate) fn punctured(&self, rate: Rate, start: u8, x: u8, y: u8) -> (Bits, u8)
         requires table { IsPeriodTable rate self.now.words self.now.ends }
         requires place { start < steps_in_period rate }
-        ensures bits { (t : ℕ) → start ≡ t % steps_in_period rate → spelled result.0.count result.0.word ≡ bits_of_steps rate t (spelled 8 x) (spelled 8 y) }
+        ensures bits { (t : ℕ) → start ≡ t % steps_in_period rate → spelled result.0.count result.0.word
+            ≡ bits_of_steps rate t (spelled 8 x) (spelled 8 y) }
         ensures few { result.0.count ≤ 16 }
         ensures within { result.1 < steps_in_period rate }
         ensures next { (t : ℕ) → start ≡ t % steps_in_period rate → result.1 ≡ (t + 8) % steps_in_period rate }

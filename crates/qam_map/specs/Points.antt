@@ -1,5 +1,7 @@
 -- The constellations: labels, levels of an axis, and cells (EN 300 744, 4.3.5).
-use Rattle.std.specs.Prelude.{◌≡◌, ℕ, ◌+◌, ◌-◌, ◌*◌, ◌/◌, ◌%◌, ◌^◌, ◌<◌, ◌==◌, Bool, true, false, List, [], ◌∷◌, ◌++◌, length, map, filter, find, flat_map, zip, sum, reverse, take, slice_index, nat_lt, ℤ, pos, ◌-ℤ◌, neg_ℤ, nat_abs, if◌then◌else◌}
+use Rattle.std.specs.Prelude.{◌≡◌, ℕ, ◌+◌, ◌-◌, ◌*◌, ◌/◌, ◌%◌, ◌^◌, ◌<◌, ◌==◌, Bool, true, false, List, [], ◌∷◌, ◌++◌}
+use Rattle.std.specs.Prelude.{length, map, filter, find, flat_map, zip, sum, reverse, take, slice_index, nat_lt, ℤ, pos}
+use Rattle.std.specs.Prelude.{◌-ℤ◌, neg_ℤ, nat_abs, if◌then◌else◌}
 use Rattle.std.specs.Bool.{beq}
 use Rattle.std.specs.List.{position_or_len}
 use Rattle.std.specs.Option.{option_map_or}
@@ -20,7 +22,8 @@ magnitudes Qam64 = (false ∷ false ∷ []) ∷ (false ∷ true ∷ []) ∷ (tru
 
 -- the index of the level, outermost first, that the bits after the sign select
 abbrev pub ring_of : Shape → Bool → Bool → ℕ
-ring_of s outer inner = position_or_len (λ m. pointwise beq m (take (label_bits s / 2 - 1) (outer ∷ inner ∷ []))) (magnitudes s)
+ring_of s outer inner = position_or_len (λ m. pointwise beq m (take (label_bits s / 2 - 1) (outer ∷ inner ∷ [])))
+    (magnitudes s)
 
 -- a value of an axis, and the label bits that select it, sign first
 pub record Point : Type 0 where
@@ -30,7 +33,8 @@ pub record Point : Type 0 where
 -- the points of an axis; sign 0 is positive
 abbrev pub points : Shape → Hierarchy → List Point
 points s h = let positive = zip (magnitudes s) (levels s h) in
-    map (λ p. record { label = false ∷ p.0; value = pos p.1 }) positive ++ map (λ p. record { label = true ∷ p.0; value = neg_ℤ (pos p.1) }) positive
+    map (λ p. record { label = false ∷ p.0; value = pos p.1 }) positive
+    ++ map (λ p. record { label = true ∷ p.0; value = neg_ℤ (pos p.1) }) positive
 
 -- the value that label bits select on an axis
 abbrev pub value_of : Shape → Hierarchy → List Bool → ℤ

@@ -22,7 +22,8 @@ is_end at_end = true
 
 -- The state of a stream matches a start, the costs received, and its output: the bytes of packets, the counts of words
 -- and the reports. Whole bytes of the decoder's bits were taken; fewer than eight bits are pending.
-pub record StreamStands (moment : Moment) (x : StreamState) (a : Option (List Bool)) (c : List CostPair) (given : List ℕ) (tally : Tally) (steps : List ℕ) : Type 0 where
+pub record StreamStands (moment : Moment) (x : StreamState) (a : Option (List Bool)) (c : List CostPair)
+    (given : List ℕ) (tally : Tally) (steps : List ℕ) : Type 0 where
   pub bits : List Bool
   pub has_given : HasGiven moment x.branch.decoder a c bits steps
   pub loaded : x.branch.loaded ≡ []
@@ -34,7 +35,8 @@ pub record StreamStands (moment : Moment) (x : StreamState) (a : Option (List Bo
   pub counts : x.counts ≡ stream_counts tally (length steps)
 
 -- a stream gave more output, after `old`
-pub record StreamGave (moment : Moment) (x : StreamState) (a : Option (List Bool)) (c : List CostPair) (given steps : List ℕ) (old new : List ℕ) : Type 0 where
+pub record StreamGave (moment : Moment) (x : StreamState) (a : Option (List Bool)) (c : List CostPair)
+    (given steps : List ℕ) (old new : List ℕ) : Type 0 where
   pub written : List ℕ
   pub is : new ≡ old ++ written
   pub tally : Tally
@@ -46,7 +48,8 @@ pub record StandsFor (moment : Moment) (x : ReceiverState) (bytes : List ℕ) (r
   pub ended : x.ended ≡ is_end moment
   pub taken : x.taken ≡ symbols x.settings bytes
   pub rest : x.rest ≡ unfinished x.settings bytes
-  pub streams : (σ : Stream) → StreamStands moment (stream_of x σ) (start_of x.settings.start) (costs x.settings bytes σ) (r.packets σ) (r.tally σ) (r.reports σ)
+  pub streams : (σ : Stream) → StreamStands moment (stream_of x σ) (start_of x.settings.start)
+      (costs x.settings bytes σ) (r.packets σ) (r.tally σ) (r.reports σ)
   pub frames : FrameStands x.settings.mode x.frames (tps_cells x.settings bytes) (symbols x.settings bytes)
   pub read : x.frames.read ≡ r.read
   pub bad : x.frames.bad ≡ r.bad

@@ -13,16 +13,19 @@ use Rattle.reception.specs.Lines.{stream_counts}
 
 -- the slots hold the received words from number `from` on
 abbrev pub AreWords : List ℕ → ℕ → List WordSlot → Type 0
-AreWords bytes from slots = (i : ℕ) (d : WordSlot) → i < length slots → (slice_index_or slots i d).word ≡ word_at bytes (from + i)
+AreWords bytes from slots = (i : ℕ) (d : WordSlot) → i < length slots → (slice_index_or slots i d).word
+    ≡ word_at bytes (from + i)
 
 -- these words, decoded
 abbrev pub AreDecoded : List ℕ → ℕ → List WordSlot → Type 0
-AreDecoded bytes from slots = (i : ℕ) (d : WordSlot) → i < length slots → Decoded (word_at bytes (from + i)) (slice_index_or slots i d).word (slice_index_or slots i d).outcome
+AreDecoded bytes from slots = (i : ℕ) (d : WordSlot) → i < length slots
+    → Decoded (word_at bytes (from + i)) (slice_index_or slots i d).word (slice_index_or slots i d).outcome
 
 -- each slot is decoded
 pub record DecodesAll (old new : List WordSlot) : Type 0 where
   pub long : length new ≡ length old
-  pub each : (i : ℕ) (d : WordSlot) → i < length old → Decoded (slice_index_or old i d).word (slice_index_or new i d).word (slice_index_or new i d).outcome
+  pub each : (i : ℕ) (d : WordSlot) → i < length old → Decoded (slice_index_or old i d).word (slice_index_or new i
+      d).word (slice_index_or new i d).outcome
 
 -- an outer receiver that has had some bytes and finished all their words
 pub record Started (outer : Receiver) : Type 0 where
@@ -32,20 +35,23 @@ pub record Started (outer : Receiver) : Type 0 where
   pub finished : Finished outer bytes given tally (word_count bytes)
 
 -- one more byte; the slots still hold the unfinished words
-pub record Took (outer : Receiver) (byte : ℕ) (bytes given : List ℕ) (tally : Tally) (done : ℕ) (old new : List WordSlot) : Type 0 where
+pub record Took (outer : Receiver) (byte : ℕ) (bytes given : List ℕ) (tally : Tally) (done : ℕ)
+    (old new : List WordSlot) : Type 0 where
   pub finished : Finished outer (bytes ++ byte ∷ []) given tally done
   pub all : done + length old ≡ word_count bytes → done + length new ≡ word_count (bytes ++ byte ∷ [])
   pub words : done + length old ≡ word_count bytes → AreWords bytes done old → AreWords (bytes ++ byte ∷ []) done new
 
 -- the same, if the byte is the first of the pending bits
-pub record Passed (wait left : List Bool) (outer : Receiver) (bytes given : List ℕ) (tally : Tally) (done : ℕ) (old new : List WordSlot) : Type 0 where
+pub record Passed (wait left : List Bool) (outer : Receiver) (bytes given : List ℕ) (tally : Tally) (done : ℕ)
+    (old new : List WordSlot) : Type 0 where
   pub byte : ℕ
   pub small : byte < 256
   pub bits : wait ≡ spelled 8 byte ++ left
   pub took : Took outer byte bytes given tally done old new
 
 -- k bytes of the pending bits were taken
-pub record Collected (wait : List Bool) (bytes given : List ℕ) (tally : Tally) (done k : ℕ) (outer : Receiver) (left : List Bool) (slots : List WordSlot) : Type 0 where
+pub record Collected (wait : List Bool) (bytes given : List ℕ) (tally : Tally) (done k : ℕ) (outer : Receiver)
+    (left : List Bool) (slots : List WordSlot) : Type 0 where
   pub more : List ℕ
   pub long : length more ≡ k
   pub bits : wait ≡ bits_of_bytes more ++ left
@@ -55,7 +61,8 @@ pub record Collected (wait : List Bool) (bytes given : List ℕ) (tally : Tally)
   pub words : AreWords (bytes ++ more) done slots
 
 -- words were finished up to number `done`, and their packets written after `old`
-pub record Wrote (outer : Receiver) (bytes given : List ℕ) (done : ℕ) (old new : List ℕ) (before after : StreamCounts) (tally : Tally) : Type 0 where
+pub record Wrote (outer : Receiver) (bytes given : List ℕ) (done : ℕ) (old new : List ℕ) (before after : StreamCounts)
+    (tally : Tally) : Type 0 where
   pub written : List ℕ
   pub is : new ≡ old ++ written
   pub now : Tally
@@ -63,7 +70,8 @@ pub record Wrote (outer : Receiver) (bytes given : List ℕ) (done : ℕ) (old n
   pub counts : (unmerged : ℕ) → before ≡ stream_counts tally unmerged → after ≡ stream_counts now unmerged
 
 -- the result for the pending bits: whole bytes were taken, all words are finished, and the packets are written
-pub record Gives (wait left : List Bool) (outer : Receiver) (bytes given : List ℕ) (tally : Tally) (old new : List ℕ) (before after : StreamCounts) : Type 0 where
+pub record Gives (wait left : List Bool) (outer : Receiver) (bytes given : List ℕ) (tally : Tally) (old new : List ℕ)
+    (before after : StreamCounts) : Type 0 where
   pub more : List ℕ
   pub bits : wait ≡ bits_of_bytes more ++ left
   pub small : All (λ b. b < 256) more

@@ -1,5 +1,6 @@
 // The receiver.
-ghost use Rattle.std.specs.Prelude.{◌≡◌, ◌+◌, ◌-◌, ◌*◌, ◌<◌, ◌≤◌, ◌^◌, [], ℕ, List, IsTrue, true, false, min, take, length, IfOk};
+ghost use Rattle.std.specs.Prelude.{◌≡◌, ◌+◌, ◌-◌, ◌*◌, ◌<◌, ◌≤◌, ◌^◌, [], ℕ, List, IsTrue, true, false, min, take};
+ghost use Rattle.std.specs.Prelude.{length, IfOk};
 ghost use Rattle.mode_set.specs.declared.modes.Stream.TheVariants.{Hp, Lp};
 ghost use Rattle.symbol_parameters.specs.Spans.{exists_in};
 ghost use Rattle.reception.specs.Streams.{so_far, at_end, start_of, Moment, Reception};
@@ -15,12 +16,12 @@ use crate::RxOut;
 use crate::stream::StreamRx;
 use acs_lanes::LaneAcs;
 use inner_decoder::Branch;
+use inner_receiver::{FrameReader, SymbolCosts, take_symbol};
 use mode_set::{Carriers, Settings, Stream};
 use rx_report::Counts;
 use std::alloc::{AllocError, Global};
 use std::marker::Model;
 use std::thread::Threads;
-use inner_receiver::{FrameReader, SymbolCosts, take_symbol};
 use survivor_ring::RingSurvivors;
 use word_workers::{Gate, OpenGate};
 
@@ -88,7 +89,8 @@ impl<M: Carriers> Receiver<M> {
         ensures going { self.new.ended ≡ false }
         ensures count { result ≡ min (length piece.now) (5 * M.K - length self.old.rest) }
         ensures taken { self.new.taken ≤ self.old.taken + 1 }
-        ensures fed { (bytes : List ℕ) (r : Reception) → StandsFor so_far self.old bytes r → Feeds (StandsFor so_far self.new) self.old.settings bytes piece.now r result out.new }
+        ensures fed { (bytes : List ℕ) (r : Reception) → StandsFor so_far self.old bytes r
+            → Feeds (StandsFor so_far self.new) self.old.settings bytes piece.now r result out.new }
     {
         self.feed_gated(rt, &OpenGate, piece, out)
     }
@@ -108,7 +110,8 @@ impl<M: Carriers> Receiver<M> {
         ensures going { self.new.ended ≡ false }
         ensures count { result ≡ min (length piece.now) (5 * M.K - length self.old.rest) }
         ensures taken { self.new.taken ≤ self.old.taken + 1 }
-        ensures fed { (bytes : List ℕ) (r : Reception) → StandsFor so_far self.old bytes r → Feeds (StandsFor so_far self.new) self.old.settings bytes piece.now r result out.new }
+        ensures fed { (bytes : List ℕ) (r : Reception) → StandsFor so_far self.old bytes r
+            → Feeds (StandsFor so_far self.new) self.old.settings bytes piece.now r result out.new }
     {
         reception::laws::symbols();
         reception::laws::costs();
@@ -144,7 +147,8 @@ impl<M: Carriers> Receiver<M> {
         ensures settings { self.new.settings ≡ self.old.settings }
         ensures ended { self.new.ended ≡ true }
         ensures taken { self.new.taken ≡ self.old.taken }
-        ensures finished { (bytes : List ℕ) (r : Reception) → StandsFor so_far self.old bytes r → Finishes (StandsFor at_end self.new) self.old.settings bytes r out.new }
+        ensures finished { (bytes : List ℕ) (r : Reception) → StandsFor so_far self.old bytes r
+            → Finishes (StandsFor at_end self.new) self.old.settings bytes r out.new }
     {
         outer_chain::laws::bits();
         outer_chain::laws::receiving();
@@ -165,14 +169,16 @@ impl<M: Carriers> Receiver<M> {
     /// The number of whole symbols received so far.
     pub fn symbols(&self) -> u64
         ensures number { result ≡ self.now.taken }
-        ensures symbols { (moment : Moment) (bytes : List ℕ) (r : Reception) → StandsFor moment self.now bytes r → result ≡ symbols self.now.settings bytes }
+        ensures symbols { (moment : Moment) (bytes : List ℕ) (r : Reception) → StandsFor moment self.now bytes r
+            → result ≡ symbols self.now.settings bytes }
     {
         self.cells.symbols()
     }
 
     /// The counts so far, or at the end.
     pub fn counts(&self) -> Counts
-        ensures { (moment : Moment) (bytes : List ℕ) (r : Reception) → StandsFor moment self.now bytes r → result ≡ counts_of self.now.settings bytes r }
+        ensures { (moment : Moment) (bytes : List ℕ) (r : Reception) → StandsFor moment self.now bytes r → result
+            ≡ counts_of self.now.settings bytes r }
     {
         reception::laws::symbols();
         Counts {
@@ -191,8 +197,10 @@ impl<M: Carriers> Receiver<M> {
     pub fn branch(&self, stream: Stream) -> &Branch<LaneAcs, RingSurvivors<2048>>
         requires exists { IsTrue (exists_in self.now.settings stream) }
         ensures branch { result.now ≡ (stream_of self.now stream).branch }
-        ensures loaded { (moment : Moment) (bytes : List ℕ) (r : Reception) → StandsFor moment self.now bytes r → result.now.loaded ≡ [] }
-        ensures stands { (moment : Moment) (bytes : List ℕ) (r : Reception) → StandsFor moment self.now bytes r → HasBits moment result.now (start_of self.now.settings.start) (costs self.now.settings bytes stream) }
+        ensures loaded { (moment : Moment) (bytes : List ℕ) (r : Reception) → StandsFor moment self.now bytes r
+            → result.now.loaded ≡ [] }
+        ensures stands { (moment : Moment) (bytes : List ℕ) (r : Reception) → StandsFor moment self.now bytes r
+            → HasBits moment result.now (start_of self.now.settings.start) (costs self.now.settings bytes stream) }
     {
         match stream {
             Stream::Hp => &self.hp.branch,

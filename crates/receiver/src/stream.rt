@@ -1,5 +1,6 @@
 // The reception of one stream, symbol by symbol.
-ghost use Rattle.std.specs.Prelude.{◌≡◌, ◌+◌, ◌<◌, ◌≤◌, ◌^◌, ◌++◌, [], ℕ, List, Bool, length, vec_len, vec_capacity, IfOk, true};
+ghost use Rattle.std.specs.Prelude.{◌≡◌, ◌+◌, ◌<◌, ◌≤◌, ◌^◌, ◌++◌, [], ℕ, List, Bool, length, vec_len, vec_capacity};
+ghost use Rattle.std.specs.Prelude.{IfOk, true};
 ghost use Rattle.std.specs.declared.option.Option.{Option};
 ghost use Rattle.code_paths.specs.declared.costs.CostPair.{CostPair as Pair};
 ghost use Rattle.inner_decoder.specs.Events.{ats};
@@ -14,12 +15,12 @@ ghost use Rattle.receiver.specs.Standing.{StreamStands, StreamGave};
 ghost use Rattle.receiver.specs.Ready.{IsReady, MayGive, seen};
 
 use crate::words::{WORDS, collect, decode, finish_words};
+use inner_receiver::{StreamBranch, begin, end};
 use mode_set::Start;
 use outer_chain::{OuterRx, WordSlot};
 use rx_report::StreamCounts;
 use std::alloc::{AllocError, Global};
 use std::thread::Threads;
-use inner_receiver::{StreamBranch, begin, end};
 use word_workers::{Gate, OpenGate};
 
 /// The decoder of one stream, and what its bits become: bytes, words, packets and counts.
@@ -79,8 +80,10 @@ impl StreamRx {
         ensures rest { self.new.branch ≡ record self.old.branch { wait = self.new.branch.wait } }
         ensures few { (n : ℕ) → AreFew self.old.counts n → AreFew self.new.counts (n + 24) }
         ensures started { Started self.new.outer }
-        ensures gives { (bytes given : List ℕ) (tally : Tally) → Finished self.old.outer bytes given tally (word_count bytes)
-            → Gives self.old.branch.wait self.new.branch.wait self.new.outer bytes given tally to.old.items to.new.items self.old.counts self.new.counts }
+        ensures gives { (bytes given : List ℕ) (tally : Tally)
+            → Finished self.old.outer bytes given tally (word_count bytes)
+            → Gives self.old.branch.wait self.new.branch.wait self.new.outer bytes given tally to.old.items to.new.items
+            self.old.counts self.new.counts }
     {
         collect(&mut self.branch, &mut self.outer, &mut self.slots);
         decode(rt, gate, workers, &mut self.slots);
@@ -92,7 +95,10 @@ impl StreamRx {
     fn report(&mut self)
         requires few { AreFew self.old.counts (2 ^ 62) }
         ensures few { (n : ℕ) → AreFew self.old.counts n → AreFew self.new.counts (n + 16) }
-        ensures counted { self.new ≡ record self.old { counts = record self.old.counts { unmerged = self.old.counts.unmerged + length self.old.branch.events } } }
+        ensures counted { self.new ≡ record self.old {
+          counts = record self.old.counts
+              { unmerged = self.old.counts.unmerged + length self.old.branch.events };
+        } }
     {
         let reports = self.branch.events();
         self.counts.unmerged += reports.len() as u64;
@@ -117,8 +123,11 @@ impl StreamRx {
         ensures counts { (n : ℕ) → AreFew self.old.counts n → AreFew self.new.counts (n + 40) }
         ensures capacity { vec_capacity to.new ≡ vec_capacity to.old }
         ensures fed { (before : BranchState) (pairs : List Pair) → HasTaken pairs before self.old.branch
-            → (a : Option (List Bool)) (c : List Pair) (given : List ℕ) (tally : Tally) (reports : List ℕ) → StreamStands so_far (record { branch = before; outer = self.old.outer; counts = self.old.counts }) a c given tally reports
-            → StreamGave so_far (seen self.new) a (c ++ pairs) given (reports ++ ats self.new.branch.events) to.old.items to.new.items }
+            → (a : Option (List Bool)) (c : List Pair) (given : List ℕ) (tally : Tally) (reports : List ℕ)
+            → StreamStands so_far (record { branch = before; outer = self.old.outer; counts = self.old.counts }) a c
+            given tally reports
+            → StreamGave so_far (seen self.new) a (c ++ pairs) given (reports ++ ats self.new.branch.events)
+            to.old.items to.new.items }
     {
         self.give(rt, gate, workers, to);
         self.report();
@@ -135,7 +144,8 @@ impl StreamRx {
         ensures steps { self.new.branch.decoder.steps ≡ self.old.branch.decoder.steps }
         ensures counts { (n : ℕ) → AreFew self.old.counts n → AreFew self.new.counts (n + 40) }
         ensures capacity { vec_capacity to.new ≡ vec_capacity to.old }
-        ensures ended_stream { (a : Option (List Bool)) (c : List Pair) (given : List ℕ) (tally : Tally) (reports : List ℕ) → StreamStands so_far (seen self.old) a c given tally reports
+        ensures ended_stream { (a : Option (List Bool)) (c : List Pair) (given : List ℕ) (tally : Tally)
+            (reports : List ℕ) → StreamStands so_far (seen self.old) a c given tally reports
             → StreamGave at_end (seen self.new) a c given reports to.old.items to.new.items }
     {
         end(&mut self.branch);

@@ -1,16 +1,19 @@
 // From the bits of a decoder to packets.
-ghost use Rattle.std.specs.Prelude.{◌≡◌, ◌+◌, ◌-◌, ◌*◌, ◌/◌, ◌<◌, ◌≤◌, ◌^◌, ◌++◌, [], ℕ, List, not, cond, length, vec_len, vec_capacity};
+ghost use Rattle.std.specs.Prelude.{◌≡◌, ◌+◌, ◌-◌, ◌*◌, ◌/◌, ◌<◌, ◌≤◌, ◌^◌, ◌++◌, [], ℕ, List, not, cond, length};
+ghost use Rattle.std.specs.Prelude.{vec_len, vec_capacity};
 ghost use Rattle.rs204.specs.Decoded.{Decoded};
 ghost use Rattle.outer_chain.specs.Words.{Tally, word_at, word_count};
-ghost use Rattle.outer_chain.specs.Running.{Finished, bytes_given, is_clean_outcome, is_corrected_outcome, is_bad_outcome};
-ghost use Rattle.receiver.specs.Words.{AreDecoded, DecodesAll, Started, Took, Passed, Collected, counted, Wrote, AreFew};
+ghost use Rattle.outer_chain.specs.Running.{Finished, bytes_given, is_clean_outcome, is_corrected_outcome};
+ghost use Rattle.outer_chain.specs.Running.{is_bad_outcome};
+ghost use Rattle.receiver.specs.Words.{AreDecoded, DecodesAll, Started, Took, Passed, Collected, counted, Wrote};
+ghost use Rattle.receiver.specs.Words.{AreFew};
 
+use inner_receiver::StreamBranch;
 use outer_chain::laws::receiving;
 use outer_chain::{OuterRx, WordSlot};
 use rs204::Outcome;
 use rx_report::StreamCounts;
 use std::thread::Threads;
-use inner_receiver::StreamBranch;
 use ts_packet::Packet;
 use word_workers::{Gate, decode_all};
 
@@ -22,7 +25,8 @@ fn take_byte(outer: &mut OuterRx, byte: u8, slots: &mut Vec<WordSlot>)
     requires room { vec_len slots.old < vec_capacity slots.old }
     ensures capacity { vec_capacity slots.new ≡ vec_capacity slots.old }
     ensures small { byte < 256 }
-    ensures took { (bytes given : List ℕ) (tally : Tally) (done : ℕ) → Finished outer.old bytes given tally done → Took outer.new byte bytes given tally done slots.old.items slots.new.items }
+    ensures took { (bytes given : List ℕ) (tally : Tally) (done : ℕ) → Finished outer.old bytes given tally done
+        → Took outer.new byte bytes given tally done slots.old.items slots.new.items }
 {
     receiving();
     outer_chain::laws::growth();
@@ -36,7 +40,8 @@ fn pass_byte(branch: &mut StreamBranch, outer: &mut OuterRx, slots: &mut Vec<Wor
     ensures capacity { vec_capacity slots.new ≡ vec_capacity slots.old }
     ensures wait { length branch.old.wait ≡ length branch.new.wait + 8 }
     ensures rest { branch.new ≡ record branch.old { wait = branch.new.wait } }
-    ensures passed { (bytes given : List ℕ) (tally : Tally) (done : ℕ) → Finished outer.old bytes given tally done → Passed branch.old.wait branch.new.wait outer.new bytes given tally done slots.old.items slots.new.items }
+    ensures passed { (bytes given : List ℕ) (tally : Tally) (done : ℕ) → Finished outer.old bytes given tally done
+        → Passed branch.old.wait branch.new.wait outer.new bytes given tally done slots.old.items slots.new.items }
 {
     match branch.take_byte() {
         Some(byte) => take_byte(outer, byte, slots),
@@ -54,7 +59,8 @@ pub(crate) fn collect(branch: &mut StreamBranch, outer: &mut OuterRx, slots: &mu
     ensures wait { length branch.new.wait < 8 }
     ensures rest { branch.new ≡ record branch.old { wait = branch.new.wait } }
     ensures collected { (bytes given : List ℕ) (tally : Tally) → Finished outer.old bytes given tally (word_count bytes)
-        → Collected branch.old.wait bytes given tally (word_count bytes) (length branch.old.wait / 8) outer.new branch.new.wait slots.new.items }
+        → Collected branch.old.wait bytes given tally (word_count bytes) (length branch.old.wait / 8) outer.new
+        branch.new.wait slots.new.items }
 {
     for _k in 0..branch.waiting() / 8 {
         pass_byte(branch, outer, slots);
@@ -143,7 +149,8 @@ fn finish_word(outer: &mut OuterRx, slot: &WordSlot, counts: &mut StreamCounts, 
     ensures len { vec_len to.new ≤ vec_len to.old + 188 }
     ensures capacity { vec_capacity to.new ≡ vec_capacity to.old }
     ensures few { (n : ℕ) → AreFew counts.old n → AreFew counts.new (n + 1) }
-    ensures wrote { (bytes given : List ℕ) (tally : Tally) (done : ℕ) → Finished outer.old bytes given tally done → done < word_count bytes → Decoded (word_at bytes done) slot.now.word slot.now.outcome
+    ensures wrote { (bytes given : List ℕ) (tally : Tally) (done : ℕ) → Finished outer.old bytes given tally done
+        → done < word_count bytes → Decoded (word_at bytes done) slot.now.word slot.now.outcome
         → Wrote outer.new bytes given (done + 1) to.old.items to.new.items counts.old counts.new tally }
 {
     receiving();
@@ -164,7 +171,8 @@ pub(crate) fn finish_words(
     requires few { AreFew counts.old (2 ^ 61) }
     ensures capacity { vec_capacity to.new ≡ vec_capacity to.old }
     ensures few { (n : ℕ) → AreFew counts.old n → AreFew counts.new (n + 24) }
-    ensures wrote { (bytes given : List ℕ) (tally : Tally) (done : ℕ) → Finished outer.old bytes given tally done → done + length slots.now ≤ word_count bytes → AreDecoded bytes done slots.now
+    ensures wrote { (bytes given : List ℕ) (tally : Tally) (done : ℕ) → Finished outer.old bytes given tally done → done
+        + length slots.now ≤ word_count bytes → AreDecoded bytes done slots.now
         → Wrote outer.new bytes given (done + length slots.now) to.old.items to.new.items counts.old counts.new tally }
 {
     for slot in slots {

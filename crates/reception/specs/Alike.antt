@@ -42,4 +42,5 @@ SameCosts = (s t : Settings) (bytes : List ℕ) (σ : Stream) → DifferInWorker
 
 -- .. and the events of reports
 abbrev pub SameEvents : Type 0
-SameEvents = (s t : Settings) (n : ℕ) (reports : Stream → List ℕ) → DifferInWorkers s t → events t n reports ≡ events s n reports
+SameEvents = (s t : Settings) (n : ℕ) (reports : Stream → List ℕ) → DifferInWorkers s t → events t n reports
+    ≡ events s n reports

@@ -10,7 +10,8 @@ use Rattle.reception.specs.Cells.{symbols, symbol_cells, symbol_weights}
 
 -- the cost pairs of symbol m, one for each step, by the settings of its super-frame; it is symbol m mod 68 of its frame
 unfoldable pub symbol_costs : Settings → List ℕ → Stream → ℕ → List CostPair
-symbol_costs s bytes σ m = map (pair_of (settings_at s m) (symbol_cells s bytes m) (symbol_weights s bytes m) (m % 68) σ) (numbers (steps_of s σ m))
+symbol_costs s bytes σ m = map (pair_of (settings_at s m) (symbol_cells s bytes m) (symbol_weights s bytes m) (m % 68)
+    σ) (numbers (steps_of s σ m))
 
 -- the cost pairs of every whole symbol of the bytes
 unfoldable pub costs : Settings → List ℕ → Stream → List CostPair

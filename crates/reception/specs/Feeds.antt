@@ -29,7 +29,8 @@ abbrev pub taken : Settings → List ℕ → List ℕ → ℕ
 taken s bytes piece = min (length piece) (symbol_length s - tail s bytes)
 
 -- The effect of `feed` on a receiver that has had these bytes and given this reception.
-pub record Feeds (Stands : List ℕ → Reception → Type 0) (s : Settings) (bytes piece : List ℕ) (before : Reception) (n : ℕ) (out : Output) : Type 0 where
+pub record Feeds (Stands : List ℕ → Reception → Type 0) (s : Settings) (bytes piece : List ℕ) (before : Reception)
+    (n : ℕ) (out : Output) : Type 0 where
   pub after : Reception
   pub count : n ≡ taken s bytes piece
   pub stands : Stands (bytes ++ take n piece) after
@@ -37,7 +38,8 @@ pub record Feeds (Stands : List ℕ → Reception → Type 0) (s : Settings) (by
   pub follows : Follows s bytes (bytes ++ take n piece) before after out
 
 -- The effect of `finish`.
-pub record Finishes (Ends : List ℕ → Reception → Type 0) (s : Settings) (bytes : List ℕ) (before : Reception) (out : Output) : Type 0 where
+pub record Finishes (Ends : List ℕ → Reception → Type 0) (s : Settings) (bytes : List ℕ) (before : Reception)
+    (out : Output) : Type 0 where
   pub after : Reception
   pub ends : Ends bytes after
   pub final : Final s bytes after

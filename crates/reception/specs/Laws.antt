@@ -1,5 +1,6 @@
 -- The laws of reception. Each is the clause of a public function of module laws.
-use Rattle.std.specs.Prelude.{◌≡◌, ℕ, ◌+◌, ◌-◌, ◌*◌, ◌%◌, ◌<◌, ◌≤◌, Bool, false, List, [], ◌++◌, map, length, drop, slice_index_or, Option, All}
+use Rattle.std.specs.Prelude.{◌≡◌, ℕ, ◌+◌, ◌-◌, ◌*◌, ◌%◌, ◌<◌, ◌≤◌, Bool, false, List, [], ◌++◌, map, length, drop}
+use Rattle.std.specs.Prelude.{slice_index_or, Option, All}
 use Rattle.code_paths.specs.declared.costs.CostPair.{CostPair}
 use Rattle.code_paths.specs.Streams.{Given, Reports}
 use Rattle.mode_set.specs.declared.modes.Start.{Start}
@@ -32,7 +33,8 @@ SameSymbols = (s : Settings) (bytes more : List ℕ) → IsWithin s bytes more �
 
 -- bytes that complete a symbol add one, and no byte remains after it
 abbrev pub OneSymbolMore : Type 0
-OneSymbolMore = (s : Settings) (bytes more : List ℕ) → EndsSymbol s bytes more → (symbols s (bytes ++ more) ≡ symbols s bytes + 1) × (tail s (bytes ++ more) ≡ 0)
+OneSymbolMore = (s : Settings) (bytes more : List ℕ) → EndsSymbol s bytes more
+    → (symbols s (bytes ++ more) ≡ symbols s bytes + 1) × (tail s (bytes ++ more) ≡ 0)
 
 -- the bytes after the whole symbols
 abbrev pub unfinished : Settings → List ℕ → List ℕ
@@ -42,50 +44,62 @@ abbrev pub TailIsUnfinished : Type 0
 TailIsUnfinished = (s : Settings) (bytes : List ℕ) → length (unfinished s bytes) ≡ tail s bytes
 
 abbrev pub MoreUnfinished : Type 0
-MoreUnfinished = (s : Settings) (bytes more : List ℕ) → IsWithin s bytes more → unfinished s (bytes ++ more) ≡ unfinished s bytes ++ more
+MoreUnfinished = (s : Settings) (bytes more : List ℕ) → IsWithin s bytes more → unfinished s (bytes ++ more)
+    ≡ unfinished s bytes ++ more
 
 -- the bytes of the completed symbol
 abbrev pub EndedSymbol : Type 0
 EndedSymbol = (s : Settings) (bytes more : List ℕ) → EndsSymbol s bytes more
-    → (bytes_of_symbol s (bytes ++ more) (symbols s bytes) ≡ unfinished s bytes ++ more) × (unfinished s (bytes ++ more) ≡ [])
+    → (bytes_of_symbol s (bytes ++ more) (symbols s bytes) ≡ unfinished s bytes ++ more)
+    × (unfinished s (bytes ++ more) ≡ [])
 
 -- more bytes leave the cells of whole symbols unchanged
 abbrev pub CellsStay : Type 0
-CellsStay = (s : Settings) (bytes more : List ℕ) (m : ℕ) → m < symbols s bytes → symbol_cells s (bytes ++ more) m ≡ symbol_cells s bytes m
+CellsStay = (s : Settings) (bytes more : List ℕ) (m : ℕ) → m < symbols s bytes → symbol_cells s (bytes ++ more) m
+    ≡ symbol_cells s bytes m
 
 abbrev pub WeightsStay : Type 0
-WeightsStay = (s : Settings) (bytes more : List ℕ) (m : ℕ) → m < symbols s bytes → symbol_weights s (bytes ++ more) m ≡ symbol_weights s bytes m
+WeightsStay = (s : Settings) (bytes more : List ℕ) (m : ℕ) → m < symbols s bytes → symbol_weights s (bytes ++ more) m
+    ≡ symbol_weights s bytes m
 
 abbrev pub TpsCellsStay : Type 0
-TpsCellsStay = (s : Settings) (bytes more : List ℕ) (m : ℕ) → m < symbols s bytes → tps_cells s (bytes ++ more) m ≡ tps_cells s bytes m
+TpsCellsStay = (s : Settings) (bytes more : List ℕ) (m : ℕ) → m < symbols s bytes → tps_cells s (bytes ++ more) m
+    ≡ tps_cells s bytes m
 
 -- the bits of a frame depend only on the cells of its symbols
 abbrev pub BitsOfCells : Type 0
-BitsOfCells = (cells longer : ℕ → List Cell) (frame : ℕ) → ((m : ℕ) → m < 68 * frame + 68 → longer m ≡ cells m) → frame_bits longer frame ≡ frame_bits cells frame
+BitsOfCells = (cells longer : ℕ → List Cell) (frame : ℕ) → ((m : ℕ) → m < 68 * frame + 68 → longer m ≡ cells m)
+    → frame_bits longer frame ≡ frame_bits cells frame
 
 -- ---- costs
 
 -- the costs of longer bytes begin with those of shorter ones
 abbrev pub CostsGrow : Type 0
-CostsGrow = (s : Settings) (bytes more : List ℕ) (σ : Stream) → (rest : List CostPair) × (costs s (bytes ++ more) σ ≡ costs s bytes σ ++ rest)
+CostsGrow = (s : Settings) (bytes more : List ℕ) (σ : Stream) → (rest : List CostPair)
+    × (costs s (bytes ++ more) σ ≡ costs s bytes σ ++ rest)
 
 abbrev pub SameCosts : Type 0
-SameCosts = (s : Settings) (bytes more : List ℕ) (σ : Stream) → IsWithin s bytes more → costs s (bytes ++ more) σ ≡ costs s bytes σ
+SameCosts = (s : Settings) (bytes more : List ℕ) (σ : Stream) → IsWithin s bytes more → costs s (bytes ++ more) σ
+    ≡ costs s bytes σ
 
 abbrev pub NextCosts : Type 0
-NextCosts = (s : Settings) (bytes more : List ℕ) (σ : Stream) → EndsSymbol s bytes more → costs s (bytes ++ more) σ ≡ costs s bytes σ ++ symbol_costs s (bytes ++ more) σ (symbols s bytes)
+NextCosts = (s : Settings) (bytes more : List ℕ) (σ : Stream) → EndsSymbol s bytes more → costs s (bytes ++ more) σ
+    ≡ costs s bytes σ ++ symbol_costs s (bytes ++ more) σ (symbols s bytes)
 
 abbrev pub NoCosts : Type 0
 NoCosts = (s : Settings) (σ : Stream) → costs s [] σ ≡ []
 
 -- one pair for each step of every whole symbol
 abbrev pub CostsAreSteps : Type 0
-CostsAreSteps = (s : Settings) (bytes : List ℕ) (σ : Stream) → length (costs s bytes σ) ≡ steps_before s σ (symbols s bytes)
+CostsAreSteps = (s : Settings) (bytes : List ℕ) (σ : Stream) → length (costs s bytes σ)
+    ≡ steps_before s σ (symbols s bytes)
 
 -- step t belongs to its symbol, and counts from 0 there
 abbrev pub CostOfStep : Type 0
-CostOfStep = (s : Settings) (bytes : List ℕ) (σ : Stream) (m t : ℕ) (d : CostPair) → m < symbols s bytes → IsStepOf s σ m t
-    → slice_index_or (costs s bytes σ) t d ≡ pair_of (settings_at s m) (symbol_cells s bytes m) (symbol_weights s bytes m) (m % 68) σ (t - steps_before s σ m)
+CostOfStep = (s : Settings) (bytes : List ℕ) (σ : Stream) (m t : ℕ) (d : CostPair) → m < symbols s bytes
+    → IsStepOf s σ m t
+    → slice_index_or (costs s bytes σ) t d ≡ pair_of (settings_at s m) (symbol_cells s bytes m) (symbol_weights s bytes
+    m) (m % 68) σ (t - steps_before s σ m)
 
 -- a stream that does not exist has no costs
 abbrev pub NoCostsWithout : Type 0
@@ -95,11 +109,13 @@ NoCostsWithout = (s : Settings) (bytes : List ℕ) (σ : Stream) → exists_in s
 
 -- reports are numbers of steps, counted from 1
 abbrev pub ReportsAreSteps : Type 0
-ReportsAreSteps = (most : ℕ) (a : Option (List Bool)) (c : List CostPair) (rs : List ℕ) → Reports most a c rs → All (λ at. (0 < at) × (at ≤ length c)) rs
+ReportsAreSteps = (most : ℕ) (a : Option (List Bool)) (c : List CostPair) (rs : List ℕ) → Reports most a c rs
+    → All (λ at. (0 < at) × (at ≤ length c)) rs
 
 -- new reports name later steps
 abbrev pub NewReportsAreLater : Type 0
-NewReportsAreLater = (most : ℕ) (a : Option (List Bool)) (c more : List CostPair) (rs us : List ℕ) → Reports most a c rs → Reports most a (c ++ more) (rs ++ us) → All (λ at. (length c < at) × (at ≤ length c + length more)) us
+NewReportsAreLater = (most : ℕ) (a : Option (List Bool)) (c more : List CostPair) (rs us : List ℕ) → Reports most a c rs
+    → Reports most a (c ++ more) (rs ++ us) → All (λ at. (length c < at) × (at ≤ length c + length more)) us
 
 -- the reports of each stream for these bytes
 abbrev pub AreReports : Settings → List ℕ → (Stream → List ℕ) → Type 0
@@ -107,8 +123,10 @@ AreReports s bytes reports = (σ : Stream) → Reports memory (start_of s.start)
 
 -- one more symbol: its reports follow, HP before LP
 abbrev pub NextEvents : Type 0
-NextEvents = (s : Settings) (bytes more : List ℕ) (before new : Stream → List ℕ) → EndsSymbol s bytes more → AreReports s bytes before → AreReports s (bytes ++ more) (λ σ. before σ ++ new σ)
-    → events s (symbols s bytes + 1) (λ σ. before σ ++ new σ) ≡ events s (symbols s bytes) before ++ (map (event_at Hp) (new Hp) ++ map (event_at Lp) (new Lp))
+NextEvents = (s : Settings) (bytes more : List ℕ) (before new : Stream → List ℕ) → EndsSymbol s bytes more
+    → AreReports s bytes before → AreReports s (bytes ++ more) (λ σ. before σ ++ new σ)
+    → events s (symbols s bytes + 1) (λ σ. before σ ++ new σ) ≡ events s (symbols s bytes) before
+    ++ (map (event_at Hp) (new Hp) ++ map (event_at Lp) (new Lp))
 
 abbrev pub NoEvents : Type 0
 NoEvents = (s : Settings) (reports : Stream → List ℕ) → events s 0 reports ≡ []
@@ -138,7 +156,8 @@ pub record Grows (r q : Reception) : Type 0 where
   pub bad : r.bad ≤ q.bad
 
 abbrev pub LiveGrows : Type 0
-LiveGrows = (s : Settings) (bytes more : List ℕ) (r q : Reception) → Live s bytes r → Live s (bytes ++ more) q → Grows r q
+LiveGrows = (s : Settings) (bytes more : List ℕ) (r q : Reception) → Live s bytes r → Live s (bytes ++ more) q
+    → Grows r q
 
 -- the final output begins with the live one, and has the same reports and frames
 pub record Ends (r q : Reception) : Type 0 where

@@ -1,5 +1,6 @@
 -- The counts of a reception, and the lines of its report.
-use Rattle.std.specs.Prelude.{ℕ, ◌+◌, ◌&&◌, nat_lt, nat_le, if◌then◌else◌, List, ◌++◌, None, Some, map, filter, flat_map, length}
+use Rattle.std.specs.Prelude.{ℕ, ◌+◌, ◌&&◌, nat_lt, nat_le, if◌then◌else◌, List, ◌++◌, None, Some, map, filter}
+use Rattle.std.specs.Prelude.{flat_map, length}
 use Rattle.std.specs.List.{concat}
 use Rattle.spec_words.specs.Words.{numbers}
 use Rattle.mode_set.specs.declared.modes.Stream.{Stream}
@@ -21,14 +22,23 @@ event_at σ at = record { stream = σ; at = at }
 
 -- the reports of a stream in symbol m: those at steps of that symbol, counted from 1
 abbrev pub events_of : Settings → (Stream → List ℕ) → ℕ → Stream → List Event
-events_of s reports m σ = map (event_at σ) (filter (λ at. nat_lt (steps_before s σ m) at && nat_le at (steps_before s σ (m + 1))) (reports σ))
+events_of s reports m σ = map (event_at σ)
+    (filter (λ at. nat_lt (steps_before s σ m) at && nat_le at (steps_before s σ (m + 1))) (reports σ))
 
 -- all reports of n symbols in order, HP before LP
 unfoldable pub events : Settings → ℕ → (Stream → List ℕ) → List Event
 events s n reports = flat_map (λ m. events_of s reports m Hp ++ events_of s reports m Lp) (numbers n)
 
 abbrev pub stream_counts : Tally → ℕ → StreamCounts
-stream_counts t unmerged = record { words = t.words; clean = t.clean; corrected = t.corrected; bad = t.bad; unphased = t.unphased; unmerged = unmerged }
+stream_counts t unmerged = record {
+  words = t.words;
+  clean = t.clean;
+  corrected = t.corrected;
+  bad = t.bad;
+  unphased =
+      t.unphased;
+  unmerged = unmerged;
+}
 
 -- the counts of a stream
 abbrev pub counts_of_stream : Reception → Stream → StreamCounts

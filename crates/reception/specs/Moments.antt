@@ -19,11 +19,14 @@ pub record Begins (s : Settings) (bytes longer : List ℕ) (r q : Reception) : T
   pub lines : (rest : List ℕ) × (event_lines s longer q ≡ event_lines s bytes r ++ rest)
 
 abbrev pub LiveBeginsLive : Type 0
-LiveBeginsLive = (s : Settings) (bytes more : List ℕ) (r q : Reception) → Live s bytes r → Live s (bytes ++ more) q → Begins s bytes (bytes ++ more) r q
+LiveBeginsLive = (s : Settings) (bytes more : List ℕ) (r q : Reception) → Live s bytes r → Live s (bytes ++ more) q
+    → Begins s bytes (bytes ++ more) r q
 
 abbrev pub LiveBeginsFinal : Type 0
-LiveBeginsFinal = (s : Settings) (bytes more : List ℕ) (r q : Reception) → Live s bytes r → Final s (bytes ++ more) q → Begins s bytes (bytes ++ more) r q
+LiveBeginsFinal = (s : Settings) (bytes more : List ℕ) (r q : Reception) → Live s bytes r → Final s (bytes ++ more) q
+    → Begins s bytes (bytes ++ more) r q
 
 -- bytes that do not complete a symbol add no output
 abbrev pub WholeSymbolsGive : Type 0
-WholeSymbolsGive = (s : Settings) (bytes more : List ℕ) (r : Reception) → IsWithin s bytes more → Live s (bytes ++ more) r → Live s bytes r
+WholeSymbolsGive = (s : Settings) (bytes more : List ℕ) (r : Reception) → IsWithin s bytes more
+    → Live s (bytes ++ more) r → Live s bytes r

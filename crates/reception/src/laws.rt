@@ -1,5 +1,9 @@
 // The laws of reception, as contracts of functions with empty bodies.
-ghost use Rattle.reception.specs.Laws.{SameSymbols, OneSymbolMore, TailIsUnfinished, MoreUnfinished, EndedSymbol, CellsStay, WeightsStay, TpsCellsStay, BitsOfCells, CostsGrow, SameCosts, NextCosts, NoCosts, CostsAreSteps, CostOfStep, NoCostsWithout, ReportsAreSteps, NewReportsAreLater, NextEvents, NoEvents, OneLive, OneFinal, LiveGrows, FinalEndsLive, NothingGiven, NothingLive};
+ghost use Rattle.reception.specs.Laws.{SameSymbols, OneSymbolMore, TailIsUnfinished, MoreUnfinished, EndedSymbol};
+ghost use Rattle.reception.specs.Laws.{CellsStay, WeightsStay, TpsCellsStay, BitsOfCells, CostsGrow, SameCosts};
+ghost use Rattle.reception.specs.Laws.{NextCosts, NoCosts, CostsAreSteps, CostOfStep, NoCostsWithout, ReportsAreSteps};
+ghost use Rattle.reception.specs.Laws.{NewReportsAreLater, NextEvents, NoEvents, OneLive, OneFinal, LiveGrows};
+ghost use Rattle.reception.specs.Laws.{FinalEndsLive, NothingGiven, NothingLive};
 
 use code_paths::{
     ended_once, given_begins_ended, given_grows, given_once, reports_grow, reports_once,

@@ -13,7 +13,8 @@ pub record Follows (s : Settings) (old new : List ℕ) (before after : Rescue) (
   pub events_are : events s (symbols s new) after.reports ≡ events s (symbols s old) before.reports ++ out.events
 
 -- The effect of `feed` on a receiver that has had these bytes and given this output.
-pub record Feeds (Stands : List ℕ → Rescue → Type 0) (s : Settings) (bytes piece : List ℕ) (before : Rescue) (n : ℕ) (out : Output) : Type 0 where
+pub record Feeds (Stands : List ℕ → Rescue → Type 0) (s : Settings) (bytes piece : List ℕ) (before : Rescue) (n : ℕ)
+    (out : Output) : Type 0 where
   pub after : Rescue
   pub count : n ≡ taken s bytes piece
   pub stands : Stands (bytes ++ take n piece) after
@@ -21,7 +22,8 @@ pub record Feeds (Stands : List ℕ → Rescue → Type 0) (s : Settings) (bytes
   pub follows : Follows s bytes (bytes ++ take n piece) before after out
 
 -- The effect of `finish`.
-pub record Finishes (Ends : List ℕ → Rescue → Type 0) (s : Settings) (bytes : List ℕ) (before : Rescue) (out : Output) : Type 0 where
+pub record Finishes (Ends : List ℕ → Rescue → Type 0) (s : Settings) (bytes : List ℕ) (before : Rescue) (out : Output) :
+    Type 0 where
   pub after : Rescue
   pub ends : Ends bytes after
   pub final : RescuesAtEnd s bytes after

@@ -10,7 +10,15 @@ use Rattle.rescue.specs.Standing.{StreamStands}
 use Rattle.rescue.specs.declared.stream.StreamRx.{StreamRx}
 
 abbrev pub seen : StreamRx → StreamState
-seen x = record { branch = x.branch; margins = x.margins; bytes = x.bytes.items; byte_margins = x.byte_margins.items; words = x.words; unmerged = x.unmerged }
+seen x = record {
+  branch = x.branch;
+  margins = x.margins;
+  bytes = x.bytes.items;
+  byte_margins
+      = x.byte_margins.items;
+  words = x.words;
+  unmerged = x.unmerged;
+}
 
 -- there is space for all that a symbol adds
 pub record HasRoom (x : StreamRx) : Type 0 where

@@ -17,10 +17,12 @@ pub record AreSame (r q : Rescue) : Type 0 where
 
 -- bytes have one output so far, and one at the end
 abbrev pub OneSoFar : Type 0
-OneSoFar = (s : Settings) (bytes : List ℕ) (r q : Rescue) → RescuesSoFar s bytes r → RescuesSoFar s bytes q → AreSame r q
+OneSoFar = (s : Settings) (bytes : List ℕ) (r q : Rescue) → RescuesSoFar s bytes r → RescuesSoFar s bytes q
+    → AreSame r q
 
 abbrev pub OneAtEnd : Type 0
-OneAtEnd = (s : Settings) (bytes : List ℕ) (r q : Rescue) → RescuesAtEnd s bytes r → RescuesAtEnd s bytes q → AreSame r q
+OneAtEnd = (s : Settings) (bytes : List ℕ) (r q : Rescue) → RescuesAtEnd s bytes r → RescuesAtEnd s bytes q
+    → AreSame r q
 
 -- no bytes give no output
 abbrev pub NothingSoFar : Type 0
@@ -41,7 +43,8 @@ pub record Ends (r q : Rescue) : Type 0 where
   pub reports : (σ : Stream) → q.reports σ ≡ r.reports σ
 
 abbrev pub AtEndEndsSoFar : Type 0
-AtEndEndsSoFar = (s : Settings) (bytes : List ℕ) (r q : Rescue) → RescuesSoFar s bytes r → RescuesAtEnd s bytes q → Ends r q
+AtEndEndsSoFar = (s : Settings) (bytes : List ℕ) (r q : Rescue) → RescuesSoFar s bytes r → RescuesAtEnd s bytes q
+    → Ends r q
 
 -- the output of longer bytes begins with that of these: the packets and reports of each stream, and the event lines
 pub record Begins (s : Settings) (bytes longer : List ℕ) (r q : Rescue) : Type 0 where
@@ -50,23 +53,28 @@ pub record Begins (s : Settings) (bytes longer : List ℕ) (r q : Rescue) : Type
   pub lines : (rest : List ℕ) × (event_lines s longer q ≡ event_lines s bytes r ++ rest)
 
 abbrev pub SoFarBeginsSoFar : Type 0
-SoFarBeginsSoFar = (s : Settings) (bytes more : List ℕ) (r q : Rescue) → RescuesSoFar s bytes r → RescuesSoFar s (bytes ++ more) q → Begins s bytes (bytes ++ more) r q
+SoFarBeginsSoFar = (s : Settings) (bytes more : List ℕ) (r q : Rescue) → RescuesSoFar s bytes r
+    → RescuesSoFar s (bytes ++ more) q → Begins s bytes (bytes ++ more) r q
 
 abbrev pub SoFarBeginsAtEnd : Type 0
-SoFarBeginsAtEnd = (s : Settings) (bytes more : List ℕ) (r q : Rescue) → RescuesSoFar s bytes r → RescuesAtEnd s (bytes ++ more) q → Begins s bytes (bytes ++ more) r q
+SoFarBeginsAtEnd = (s : Settings) (bytes more : List ℕ) (r q : Rescue) → RescuesSoFar s bytes r
+    → RescuesAtEnd s (bytes ++ more) q → Begins s bytes (bytes ++ more) r q
 
 -- bytes that do not complete a symbol add no output
 abbrev pub WholeSymbolsGive : Type 0
-WholeSymbolsGive = (s : Settings) (bytes more : List ℕ) (r : Rescue) → IsWithin s bytes more → RescuesSoFar s (bytes ++ more) r → RescuesSoFar s bytes r
+WholeSymbolsGive = (s : Settings) (bytes more : List ℕ) (r : Rescue) → IsWithin s bytes more
+    → RescuesSoFar s (bytes ++ more) r → RescuesSoFar s bytes r
 
 -- ---- workers
 
 -- settings that differ only in the number of workers give the same output, so far and at the end ..
 abbrev pub SameSoFar : Type 0
-SameSoFar = (s t : Settings) (bytes : List ℕ) (r : Rescue) → DifferInWorkers s t → RescuesSoFar s bytes r → RescuesSoFar t bytes r
+SameSoFar = (s t : Settings) (bytes : List ℕ) (r : Rescue) → DifferInWorkers s t → RescuesSoFar s bytes r
+    → RescuesSoFar t bytes r
 
 abbrev pub SameAtEnd : Type 0
-SameAtEnd = (s t : Settings) (bytes : List ℕ) (r : Rescue) → DifferInWorkers s t → RescuesAtEnd s bytes r → RescuesAtEnd t bytes r
+SameAtEnd = (s t : Settings) (bytes : List ℕ) (r : Rescue) → DifferInWorkers s t → RescuesAtEnd s bytes r
+    → RescuesAtEnd t bytes r
 
 -- .. and the report has the same lines
 abbrev pub SameLines : Type 0

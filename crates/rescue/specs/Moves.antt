@@ -28,14 +28,16 @@ pub record Appends (ms more queue longer : List ℕ) : Type 0 where
 
 -- more pairs were pushed, and the margins of the bytes of whole blocks appended; at least 256 pairs are pending after
 -- them
-pub record HasPushed (xs : List CostPair) (new : MarginState) (a : Option (List Bool)) (c : List CostPair) (ms queue longer : List ℕ) : Type 0 where
+pub record HasPushed (xs : List CostPair) (new : MarginState) (a : Option (List Bool)) (c : List CostPair)
+    (ms queue longer : List ℕ) : Type 0 where
   pub more : List ℕ
   pub stands : margins.Stands new a (c ++ xs) (ms ++ more)
   pub step : (more ≡ []) ⊎ (256 ≤ length new.waiting)
   pub appends : Appends ms more queue longer
 
 abbrev pub Pushes : List CostPair → MarginState → MarginState → List ℕ → List ℕ → Type 0
-Pushes xs old new queue longer = (a : Option (List Bool)) (c : List CostPair) (ms : List ℕ) → margins.Stands old a c ms → HasPushed xs new a c ms queue longer
+Pushes xs old new queue longer = (a : Option (List Bool)) (c : List CostPair) (ms : List ℕ) → margins.Stands old a c ms
+    → HasPushed xs new a c ms queue longer
 
 -- the margins of the bytes of all pending steps were appended
 pub record HasEndedMargins (a : Option (List Bool)) (c : List CostPair) (ms queue longer : List ℕ) : Type 0 where
@@ -44,15 +46,18 @@ pub record HasEndedMargins (a : Option (List Bool)) (c : List CostPair) (ms queu
   pub appends : Appends ms more queue longer
 
 abbrev pub EndsMargins : MarginState → List ℕ → List ℕ → Type 0
-EndsMargins old queue longer = (a : Option (List Bool)) (c : List CostPair) (ms : List ℕ) → margins.Stands old a c ms → HasEndedMargins a c ms queue longer
+EndsMargins old queue longer = (a : Option (List Bool)) (c : List CostPair) (ms : List ℕ) → margins.Stands old a c ms
+    → HasEndedMargins a c ms queue longer
 
 -- bytes with their margins were taken, and the packets of their words written after `old`
 abbrev pub FinishesWords : List ℕ → List ℕ → WordsState → WordsState → List ℕ → List ℕ → Type 0
 FinishesWords bytes taken before after old new =
-    (b m given : List ℕ) (tally : RescueTally) → words.Stands before b m given tally → words.Took after (b ++ bytes) (m ++ taken) given old new
+    (b m given : List ℕ) (tally : RescueTally) → words.Stands before b m given tally
+    → words.Took after (b ++ bytes) (m ++ taken) given old new
 
 -- bytes and margins went to the words, as many as both had; the rest of one of them is pending
-pub record GivesWords (bytes sure : List ℕ) (before : WordsState) (bytes_left sure_left : List ℕ) (after : WordsState) (to more : List ℕ) : Type 0 where
+pub record GivesWords (bytes sure : List ℕ) (before : WordsState) (bytes_left sure_left : List ℕ) (after : WordsState)
+    (to more : List ℕ) : Type 0 where
   pub count : ℕ
   pub is : count ≡ min (length bytes) (length sure)
   pub bytes_are : bytes_left ≡ drop count bytes

@@ -32,7 +32,8 @@ MarginsStand at_end s a c ms = AreMargins a c ms
 
 -- The state of a stream matches a start, the costs received, and its output. Whole bytes of the decoder's bits were
 -- taken, and the known margins of bytes. As many of both went to the words, so that nothing of one of them remains.
-pub record StreamStands (moment : Moment) (x : StreamState) (a : Option (List Bool)) (c : List CostPair) (given : List ℕ) (tally : RescueTally) (steps : List ℕ) : Type 0 where
+pub record StreamStands (moment : Moment) (x : StreamState) (a : Option (List Bool)) (c : List CostPair)
+    (given : List ℕ) (tally : RescueTally) (steps : List ℕ) : Type 0 where
   pub bits : List Bool
   pub has_given : HasGiven moment x.branch.decoder a c bits steps
   pub loaded : x.branch.loaded ≡ []
@@ -51,7 +52,8 @@ pub record StreamStands (moment : Moment) (x : StreamState) (a : Option (List Bo
   pub unmerged : x.unmerged ≡ length steps
 
 -- a stream gave more output, after `old`
-pub record StreamGave (moment : Moment) (x : StreamState) (a : Option (List Bool)) (c : List CostPair) (given steps : List ℕ) (old new : List ℕ) : Type 0 where
+pub record StreamGave (moment : Moment) (x : StreamState) (a : Option (List Bool)) (c : List CostPair)
+    (given steps : List ℕ) (old new : List ℕ) : Type 0 where
   pub written : List ℕ
   pub is : new ≡ old ++ written
   pub tally : RescueTally
@@ -63,5 +65,6 @@ pub record StandsFor (moment : Moment) (x : RescueState) (bytes : List ℕ) (r :
   pub ended : x.ended ≡ is_end moment
   pub taken : x.taken ≡ symbols x.settings bytes
   pub rest : x.rest ≡ unfinished x.settings bytes
-  pub streams : (σ : Stream) → StreamStands moment (stream_of x σ) (start_of x.settings.start) (costs x.settings bytes σ) (r.packets σ) (r.tally σ) (r.reports σ)
+  pub streams : (σ : Stream) → StreamStands moment (stream_of x σ) (start_of x.settings.start)
+      (costs x.settings bytes σ) (r.packets σ) (r.tally σ) (r.reports σ)
   pub rescues : RescuesAt moment x.settings bytes r

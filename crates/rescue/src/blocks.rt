@@ -35,7 +35,8 @@ fn push_pair(margins: &mut Margins, pair: CostPair, block: &mut Vec<u32>, to: &m
     ensures waits { length margins.new.waiting < 1280 }
     ensures block { vec_capacity block.new ≡ vec_capacity block.old }
     ensures capacity { vec_capacity to.new ≡ vec_capacity to.old }
-    ensures amount { 8 * vec_len to.new + length margins.new.waiting ≡ 8 * vec_len to.old + length margins.old.waiting + 1 }
+    ensures amount { 8 * vec_len to.new + length margins.new.waiting ≡ 8 * vec_len to.old + length margins.old.waiting
+        + 1 }
     ensures behind { 256 ≤ length margins.old.waiting → 256 ≤ length margins.new.waiting }
     ensures pushed { Pushes (pair ∷ []) margins.old margins.new to.old.items to.new.items }
 {
@@ -54,12 +55,14 @@ pub(crate) fn push_pairs(
     requires going { margins.old.ended ≡ false }
     requires waits { length margins.old.waiting < 1280 }
     requires block { 1279 ≤ vec_capacity block.old }
-    requires room { 8 * vec_len to.old + length margins.old.waiting + length pairs.now + 1024 ≤ 8 * vec_capacity to.old }
+    requires room { 8 * vec_len to.old + length margins.old.waiting + length pairs.now
+        + 1024 ≤ 8 * vec_capacity to.old }
     ensures going { margins.new.ended ≡ false }
     ensures waits { length margins.new.waiting < 1280 }
     ensures block { vec_capacity block.new ≡ vec_capacity block.old }
     ensures capacity { vec_capacity to.new ≡ vec_capacity to.old }
-    ensures amount { 8 * vec_len to.new + length margins.new.waiting ≡ 8 * vec_len to.old + length margins.old.waiting + length pairs.now }
+    ensures amount { 8 * vec_len to.new + length margins.new.waiting ≡ 8 * vec_len to.old + length margins.old.waiting
+        + length pairs.now }
     ensures behind { 256 ≤ length margins.old.waiting → 256 ≤ length margins.new.waiting }
     ensures pushed { Pushes pairs.now margins.old margins.new to.old.items to.new.items }
 {

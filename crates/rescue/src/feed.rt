@@ -1,5 +1,6 @@
 // The receiver with rescue.
-ghost use Rattle.std.specs.Prelude.{◌≡◌, ◌+◌, ◌-◌, ◌*◌, ◌<◌, ◌≤◌, ◌^◌, ◌↔◌, [], ℕ, List, true, false, min, length, IfOk, IfSome, IsNone, Some, slice_get};
+ghost use Rattle.std.specs.Prelude.{◌≡◌, ◌+◌, ◌-◌, ◌*◌, ◌<◌, ◌≤◌, ◌^◌, ◌↔◌, [], ℕ, List, true, false, min, length};
+ghost use Rattle.std.specs.Prelude.{IfOk, IfSome, IsNone, Some, slice_get};
 ghost use Rattle.reception.specs.Cells.{symbols};
 ghost use Rattle.reception.specs.Streams.{so_far, at_end, Moment};
 ghost use Rattle.rescue.specs.Streams.{Rescue as Rescued, nothing};
@@ -8,15 +9,14 @@ ghost use Rattle.rescue.specs.Lines.{counts_of};
 ghost use Rattle.rescue.specs.ReportText.{closing_lines};
 ghost use Rattle.rescue.specs.Standing.{StandsFor};
 
-use crate::RxOut;
 use crate::stream::StreamRx;
+use crate::{Counts, RxOut};
+use inner_receiver::{SymbolCosts, take_symbol};
 use mode_set::{Carriers, Settings, Stream};
 use rx_report::Line;
-use crate::Counts;
 use std::alloc::{AllocError, Global};
 use std::marker::Model;
 use std::thread::Threads;
-use inner_receiver::{SymbolCosts, take_symbol};
 use word_workers::OpenGate;
 
 /// Receives the cells of a transmission, as bytes in pieces of any length, and gives the packets of its streams as far
@@ -81,7 +81,8 @@ impl<M: Carriers> Rescue<M> {
         ensures going { self.new.ended ≡ false }
         ensures count { result ≡ min (length piece.now) (5 * M.K - length self.old.rest) }
         ensures taken { self.new.taken ≤ self.old.taken + 1 }
-        ensures fed { (bytes : List ℕ) (r : Rescued) → StandsFor so_far self.old bytes r → Feeds (StandsFor so_far self.new) self.old.settings bytes piece.now r result out.new }
+        ensures fed { (bytes : List ℕ) (r : Rescued) → StandsFor so_far self.old bytes r
+            → Feeds (StandsFor so_far self.new) self.old.settings bytes piece.now r result out.new }
     {
         reception::laws::symbols();
         reception::laws::costs();
@@ -117,7 +118,8 @@ impl<M: Carriers> Rescue<M> {
         ensures settings { self.new.settings ≡ self.old.settings }
         ensures ended { self.new.ended ≡ true }
         ensures taken { self.new.taken ≡ self.old.taken }
-        ensures finished { (bytes : List ℕ) (r : Rescued) → StandsFor so_far self.old bytes r → Finishes (StandsFor at_end self.new) self.old.settings bytes r out.new }
+        ensures finished { (bytes : List ℕ) (r : Rescued) → StandsFor so_far self.old bytes r
+            → Finishes (StandsFor at_end self.new) self.old.settings bytes r out.new }
     {
         outer_chain::laws::bits();
         rescue_words::laws::receiving();
@@ -137,13 +139,15 @@ impl<M: Carriers> Rescue<M> {
     /// The number of whole symbols received so far.
     pub fn symbols(&self) -> u64
         ensures number { result ≡ self.now.taken }
-        ensures symbols { (moment : Moment) (bytes : List ℕ) (r : Rescued) → StandsFor moment self.now bytes r → result ≡ symbols self.now.settings bytes }
+        ensures symbols { (moment : Moment) (bytes : List ℕ) (r : Rescued) → StandsFor moment self.now bytes r → result
+            ≡ symbols self.now.settings bytes }
     {
         self.cells.symbols()
     }
     /// The counts so far, or at the end.
     pub fn counts(&self) -> Counts
-        ensures { (moment : Moment) (bytes : List ℕ) (r : Rescued) → StandsFor moment self.now bytes r → result ≡ counts_of self.now.settings bytes r }
+        ensures { (moment : Moment) (bytes : List ℕ) (r : Rescued) → StandsFor moment self.now bytes r → result
+            ≡ counts_of self.now.settings bytes r }
     {
         reception::laws::symbols();
         Counts {
@@ -159,8 +163,11 @@ impl<M: Carriers> Rescue<M> {
     /// The receiver has ended.
     pub fn line(&self, number: u8) -> Option<Line>
         requires ended { self.now.ended ≡ true }
-        ensures line { (bytes : List ℕ) (r : Rescued) → StandsFor at_end self.now bytes r → IfSome result (λ l. slice_get (closing_lines (counts_of self.now.settings bytes r)) number ≡ Some l.bytes) }
-        ensures past { (bytes : List ℕ) (r : Rescued) → StandsFor at_end self.now bytes r → IsNone result ↔ (length (closing_lines (counts_of self.now.settings bytes r)) ≤ number) }
+        ensures line { (bytes : List ℕ) (r : Rescued) → StandsFor at_end self.now bytes r
+            → IfSome result (λ l. slice_get (closing_lines (counts_of self.now.settings bytes r)) number
+            ≡ Some l.bytes) }
+        ensures past { (bytes : List ℕ) (r : Rescued) → StandsFor at_end self.now bytes r
+            → IsNone result ↔ (length (closing_lines (counts_of self.now.settings bytes r)) ≤ number) }
     {
         self.counts().line(number)
     }

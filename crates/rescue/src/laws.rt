@@ -1,5 +1,7 @@
 // The laws, as contracts of functions with empty bodies.
-ghost use Rattle.rescue.specs.Laws.{OneSoFar, OneAtEnd, AtEndEndsSoFar, NothingSoFar, SomeSoFar, SomeAtEnd, SoFarBeginsSoFar, SoFarBeginsAtEnd, WholeSymbolsGive, SameSoFar, SameAtEnd, SameLines};
+ghost use Rattle.rescue.specs.Laws.{OneSoFar, OneAtEnd, AtEndEndsSoFar, NothingSoFar, SomeSoFar, SomeAtEnd};
+ghost use Rattle.rescue.specs.Laws.{SoFarBeginsSoFar, SoFarBeginsAtEnd, WholeSymbolsGive, SameSoFar, SameAtEnd};
+ghost use Rattle.rescue.specs.Laws.{SameLines};
 
 use code_paths::{
     ended_once, given_begins_ended, given_grows, given_once, reports_grow, reports_once,

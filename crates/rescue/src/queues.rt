@@ -2,8 +2,8 @@
 ghost use Rattle.std.specs.Prelude.{◌≡◌, ◌+◌, ◌/◌, ◌<◌, ◌≤◌, ◌^◌, ◌++◌, ◌∷◌, [], drop, length, vec_len, vec_capacity};
 ghost use Rattle.rescue.specs.Moves.{Passes, FinishesWords, GivesWords};
 
-use rescue_words::RescueWords;
 use inner_receiver::StreamBranch;
+use rescue_words::RescueWords;
 
 /// Appends a byte.
 fn push_byte(byte: u8, to: &mut Vec<u8>)
@@ -87,7 +87,8 @@ pub(crate) fn give_words(
     ensures bytes { vec_capacity bytes.new ≡ vec_capacity bytes.old }
     ensures margins { vec_capacity margins.new ≡ vec_capacity margins.old }
     ensures words { words.new.counts.words ≤ words.old.counts.words + 4400 }
-    ensures gives { GivesWords bytes.old.items margins.old.items words.old bytes.new.items margins.new.items words.new to.old.items to.new.items }
+    ensures gives { GivesWords bytes.old.items margins.old.items words.old bytes.new.items margins.new.items words.new
+        to.old.items to.new.items }
 {
     let count = bytes.len().min(margins.len());
     finish_words(words, &bytes[..count], &margins[..count], to);

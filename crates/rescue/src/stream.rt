@@ -1,5 +1,6 @@
 // The reception of one stream with rescue, symbol by symbol.
-ghost use Rattle.std.specs.Prelude.{◌≡◌, ◌+◌, ◌<◌, ◌≤◌, ◌^◌, ◌++◌, [], ℕ, List, Bool, false, length, vec_len, vec_capacity, IfOk};
+ghost use Rattle.std.specs.Prelude.{◌≡◌, ◌+◌, ◌<◌, ◌≤◌, ◌^◌, ◌++◌, [], ℕ, List, Bool, false, length, vec_len};
+ghost use Rattle.std.specs.Prelude.{vec_capacity, IfOk};
 ghost use Rattle.std.specs.declared.option.Option.{Option};
 ghost use Rattle.code_paths.specs.declared.costs.CostPair.{CostPair as Pair};
 ghost use Rattle.inner_decoder.specs.Events.{ats};
@@ -11,15 +12,15 @@ ghost use Rattle.rescue.specs.Streams.{no_words};
 ghost use Rattle.rescue.specs.Standing.{StreamStands, StreamGave};
 ghost use Rattle.rescue.specs.Kept.{AreFew, HasRoom, IsReady, RanFrom, seen};
 
+use crate::StreamCounts;
 use crate::blocks::{end_margins, push_pairs};
 use crate::queues::{give_words, pass_bytes};
 use bit_margin::Margins;
 use conv_code::CostPair;
+use inner_receiver::{StreamBranch, begin, end, start_state};
 use mode_set::Start;
-use crate::StreamCounts;
 use rescue_words::RescueWords;
 use std::alloc::{AllocError, Global};
-use inner_receiver::{StreamBranch, begin, end, start_state};
 
 /// Space for the bytes of a symbol, and for those still pending.
 const BYTES: usize = 4608;
@@ -75,8 +76,10 @@ impl StreamRx {
         ensures counts { (n : ℕ) → AreFew (seen self.old) n → AreFew (seen self.new) (n + 4400) }
         ensures capacity { vec_capacity to.new ≡ vec_capacity to.old }
         ensures fed { (before : BranchState) → HasTaken pairs.now before self.old.branch
-            → (a : Option (List Bool)) (c : List Pair) (given : List ℕ) (tally : RescueTally) (steps : List ℕ) → StreamStands so_far (record (seen self.old) { branch = before }) a c given tally steps
-            → StreamGave so_far (seen self.new) a (c ++ pairs.now) given (steps ++ ats self.new.branch.events) to.old.items to.new.items }
+            → (a : Option (List Bool)) (c : List Pair) (given : List ℕ) (tally : RescueTally) (steps : List ℕ)
+            → StreamStands so_far (record (seen self.old) { branch = before }) a c given tally steps
+            → StreamGave so_far (seen self.new) a (c ++ pairs.now) given (steps ++ ats self.new.branch.events)
+            to.old.items to.new.items }
     {
         push_pairs(
             &mut self.margins,
@@ -95,7 +98,8 @@ impl StreamRx {
         requires counts { AreFew (seen self.old) (2 ^ 60) }
         requires room { vec_len to.old + 4512 ≤ vec_capacity to.old }
         ensures capacity { vec_capacity to.new ≡ vec_capacity to.old }
-        ensures ended_stream { (a : Option (List Bool)) (c : List Pair) (given : List ℕ) (tally : RescueTally) (steps : List ℕ) → StreamStands so_far (seen self.old) a c given tally steps
+        ensures ended_stream { (a : Option (List Bool)) (c : List Pair) (given : List ℕ) (tally : RescueTally)
+            (steps : List ℕ) → StreamStands so_far (seen self.old) a c given tally steps
             → StreamGave at_end (seen self.new) a c given steps to.old.items to.new.items }
     {
         end(&mut self.branch);

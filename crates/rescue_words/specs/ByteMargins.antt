@@ -6,8 +6,10 @@ use Rattle.outer_chain.specs.Words.{word_at}
 -- the margin of byte k of a stream, from the margins of its bits: the least of its eight
 abbrev pub byte_margin : List ℕ → ℕ → ℕ
 byte_margin ms k =
-    min (slice_index ms (8 * k)) (min (slice_index ms (8 * k + 1)) (min (slice_index ms (8 * k + 2)) (min (slice_index ms (8 * k + 3))
-    (min (slice_index ms (8 * k + 4)) (min (slice_index ms (8 * k + 5)) (min (slice_index ms (8 * k + 6)) (slice_index ms (8 * k + 7))))))))
+    min (slice_index ms (8 * k)) (min (slice_index ms (8 * k + 1))
+    (min (slice_index ms (8 * k + 2)) (min (slice_index ms (8 * k + 3))
+    (min (slice_index ms (8 * k + 4)) (min (slice_index ms (8 * k + 5))
+    (min (slice_index ms (8 * k + 6)) (slice_index ms (8 * k + 7))))))))
 
 -- the margins of the whole bytes of these bits
 unfoldable pub byte_margins : List ℕ → List ℕ

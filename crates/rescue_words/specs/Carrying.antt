@@ -39,4 +39,5 @@ pub record MarginState : Type 0 where
 -- the state after these margins of interleaved bytes
 pub record Holds (state : MarginState) (margins : List ℕ) : Type 0 where
   pub carries : Carries state.lines margins
-  pub begun : state.begun ≡ values (deinterleaved (stream_of margins)) (204 * (length margins / 204)) (length margins % 204)
+  pub begun : state.begun ≡ values (deinterleaved (stream_of margins)) (204 * (length margins / 204))
+      (length margins % 204)

@@ -72,7 +72,8 @@ pub record AreFit (counts : RescueCounts) : Type 0 where
   pub unphased : counts.unphased ≤ counts.words
 
 -- a word was recovered, counted, and written at its phase, given the phase before it
-pub record IsFinished (word margins : List ℕ) (before after : Option ℕ) (old new : List ℕ) (counts now : RescueCounts) : Type 0 where
+pub record IsFinished (word margins : List ℕ) (before after : Option ℕ) (old new : List ℕ) (counts now : RescueCounts) :
+    Type 0 where
   pub recovery : Recovery
   pub is_recovery : IsRecovery word margins recovery
   pub phase : after ≡ phase_of (codeword_of recovery) before

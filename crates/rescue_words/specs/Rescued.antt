@@ -60,6 +60,7 @@ known_words bytes margins = min (word_count bytes) (word_count margins)
 -- those of the recovered codewords.
 pub record Rescues (bytes margins out : List ℕ) (tally : RescueTally) : Type 0 where
   pub recovery : ℕ → Recovery
-  pub is_recovery : (n : ℕ) → n < known_words bytes margins → IsRecovery (word_at bytes n) (margins_at margins n) (recovery n)
+  pub is_recovery : (n : ℕ) → n < known_words bytes margins → IsRecovery (word_at bytes n) (margins_at margins n)
+      (recovery n)
   pub packets : out ≡ packets_to (codewords recovery) (word_at bytes) (known_words bytes margins)
   pub counts : tally ≡ tally_to recovery (word_at bytes) (known_words bytes margins)

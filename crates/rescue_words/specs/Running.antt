@@ -15,7 +15,15 @@ pub record WordsState : Type 0 where
   pub counts : RescueCounts
 
 abbrev pub counts_of : RescueTally → RescueCounts
-counts_of t = record { words = t.words; clean = t.clean; corrected = t.corrected; rescued = t.rescued; bad = t.bad; unphased = t.unphased }
+counts_of t = record {
+  words = t.words;
+  clean = t.clean;
+  corrected = t.corrected;
+  rescued = t.rescued;
+  bad
+      = t.bad;
+  unphased = t.unphased;
+}
 
 -- It has received these interleaved bytes and as many margins, and has finished all their words: what it wrote for
 -- them, and their counts.

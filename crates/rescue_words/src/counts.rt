@@ -1,6 +1,7 @@
 // The outcomes of words, and how many words have each.
 ghost use Rattle.std.specs.Prelude.{◌≡◌, ◌+◌, ◌<◌, ◌≤◌, ◌^◌, not, cond};
-ghost use Rattle.rescue_words.specs.Recovering.{AreFit, counted, is_clean_kind, is_corrected_kind, is_rescued_kind, is_bad_kind};
+ghost use Rattle.rescue_words.specs.Recovering.{AreFit, counted, is_clean_kind, is_corrected_kind, is_rescued_kind};
+ghost use Rattle.rescue_words.specs.Recovering.{is_bad_kind};
 
 /// The outcome of a received word.
 #[derive(Clone, Copy, Debug, Drop, PartialEq, Eq)]

@@ -1,5 +1,6 @@
 // The deinterleaver of margins.
-ghost use Rattle.std.specs.Prelude.{◌≡◌, ◌+◌, ◌*◌, ◌/◌, ◌%◌, ◌<◌, ◌^◌, ◌↔◌, ℕ, List, [], ◌∷◌, ◌++◌, length, IfOk, IfSome, IsSome, IsNone};
+ghost use Rattle.std.specs.Prelude.{◌≡◌, ◌+◌, ◌*◌, ◌/◌, ◌%◌, ◌<◌, ◌^◌, ◌↔◌, ℕ, List, [], ◌∷◌, ◌++◌, length, IfOk};
+ghost use Rattle.std.specs.Prelude.{IfSome, IsSome, IsNone};
 ghost use Rattle.forney.specs.Values.{values, stream_of};
 ghost use Rattle.forney.specs.Interleaving.{deinterleaved};
 ghost use Rattle.rescue_words.specs.Carrying.{Carries, Holds, first_byte, second_byte, third_byte, fourth_byte};
@@ -57,7 +58,8 @@ impl MarginLines {
 
     /// Takes the margin of the next interleaved byte, and returns that of the next deinterleaved one.
     pub fn step(&mut self, margin: u32) -> u32
-        ensures given { (margins : List ℕ) → Carries self.old margins → result ≡ deinterleaved (stream_of (margins ++ margin ∷ [])) (length margins) }
+        ensures given { (margins : List ℕ) → Carries self.old margins → result
+            ≡ deinterleaved (stream_of (margins ++ margin ∷ [])) (length margins) }
         ensures stands { (margins : List ℕ) → Carries self.old margins → Carries self.new (margins ++ margin ∷ []) }
     {
         let (first, second, third, fourth) = bytes_of_margin(margin);
@@ -109,8 +111,11 @@ impl MarginRx {
     /// does.
     pub fn take(&mut self, margin: u32) -> Option<[u32; 204]>
         ensures holds { (margins : List ℕ) → Holds self.old margins → Holds self.new (margins ++ margin ∷ []) }
-        ensures ends { (margins : List ℕ) → Holds self.old margins → IsSome result ↔ (length (margins ++ margin ∷ []) % 204 ≡ 0) }
-        ensures word { (margins : List ℕ) → Holds self.old margins → IfSome result (λ w. w ≡ values (deinterleaved (stream_of (margins ++ margin ∷ []))) (204 * (length margins / 204)) 204) }
+        ensures ends { (margins : List ℕ) → Holds self.old margins
+            → IsSome result ↔ (length (margins ++ margin ∷ []) % 204 ≡ 0) }
+        ensures word { (margins : List ℕ) → Holds self.old margins
+            → IfSome result (λ w. w ≡ values (deinterleaved (stream_of (margins ++ margin ∷ [])))
+            (204 * (length margins / 204)) 204) }
         ensures within { IsNone result → length self.new.begun ≡ length self.old.begun + 1 }
         ensures ended { IfSome result (λ w. (length self.old.begun ≡ 203) × (length self.new.begun ≡ 0)) }
     {

@@ -94,7 +94,8 @@ pub(crate) fn finish_word(
     ensures fit { AreFit counts.new }
     ensures more { counts.new.words ≡ counts.old.words + 1 }
     ensures receives { (bytes : List ℕ) → Receives outer.old bytes → Receives outer.new bytes }
-    ensures finished { IsFinished slot.old.word margins.now outer.old.phase outer.new.phase to.old.items to.new.items counts.old counts.new }
+    ensures finished { IsFinished slot.old.word margins.now outer.old.phase outer.new.phase to.old.items to.new.items
+        counts.old counts.new }
 {
     let kind = recover(slot, margins);
     let packet = outer.finish_word(slot);

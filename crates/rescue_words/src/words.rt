@@ -1,5 +1,6 @@
 // The outer code of a stream with rescue.
-ghost use Rattle.std.specs.Prelude.{◌≡◌, ◌+◌, ◌*◌, ◌<◌, ◌≤◌, ◌^◌, ◌++◌, ◌∷◌, [], ℕ, List, length, vec_len, vec_capacity, IfOk, IfSome, IsNone};
+ghost use Rattle.std.specs.Prelude.{◌≡◌, ◌+◌, ◌*◌, ◌<◌, ◌≤◌, ◌^◌, ◌++◌, ◌∷◌, [], ℕ, List, length, vec_len};
+ghost use Rattle.std.specs.Prelude.{vec_capacity, IfOk, IfSome, IsNone};
 ghost use Rattle.outer_chain.specs.Receiving.{Receives};
 ghost use Rattle.rescue_words.specs.Recovering.{IsFinished};
 ghost use Rattle.rescue_words.specs.Rescued.{RescueTally};
@@ -37,7 +38,8 @@ impl Model for RescueWords {
 impl RescueWords {
     /// It has received no byte. The only error is lack of memory.
     pub fn new(alloc: Global) -> Result<RescueWords, AllocError>
-        ensures stands { IfOk result (λ x. Stands x [] [] [] (record { words = 0; clean = 0; corrected = 0; rescued = 0; bad = 0; unphased = 0 })) }
+        ensures stands { IfOk result (λ x. Stands x [] [] []
+            (record { words = 0; clean = 0; corrected = 0; rescued = 0; bad = 0; unphased = 0 })) }
         ensures words { IfOk result (λ x. x.counts.words ≡ 0) }
         ensures begun { IfOk result (λ x. x.margins.begun ≡ []) }
     {
@@ -58,7 +60,8 @@ impl RescueWords {
         ensures none { IsNone margins.now → to.new ≡ to.old }
         ensures words { self.new.counts.words ≤ self.old.counts.words + 1 }
         ensures receives { (bytes : List ℕ) → Receives self.old.outer bytes → Receives self.new.outer bytes }
-        ensures finished { IfSome margins.now (λ w. IsFinished slot.word w self.old.outer.phase self.new.outer.phase to.old.items to.new.items self.old.counts self.new.counts) }
+        ensures finished { IfSome margins.now (λ w. IsFinished slot.word w self.old.outer.phase self.new.outer.phase
+            to.old.items to.new.items self.old.counts self.new.counts) }
     {
         let mut slot = slot;
         if let Some(margins) = margins {
@@ -75,9 +78,11 @@ impl RescueWords {
         requires room { vec_len to.old + 188 ≤ vec_capacity to.old }
         requires few { self.old.counts.words < 2 ^ 62 }
         ensures capacity { vec_capacity to.new ≡ vec_capacity to.old }
-        ensures amount { 204 * vec_len to.new + 188 * length self.new.margins.begun ≤ 204 * vec_len to.old + 188 * (length self.old.margins.begun + 1) }
+        ensures amount { 204 * vec_len to.new + 188 * length self.new.margins.begun ≤ 204 * vec_len to.old
+            + 188 * (length self.old.margins.begun + 1) }
         ensures words { self.new.counts.words ≤ self.old.counts.words + 1 }
-        ensures took { (bytes margins given : List ℕ) (tally : RescueTally) → Stands self.old bytes margins given tally → Took self.new (bytes ++ byte ∷ []) (margins ++ margin ∷ []) given to.old.items to.new.items }
+        ensures took { (bytes margins given : List ℕ) (tally : RescueTally) → Stands self.old bytes margins given tally
+            → Took self.new (bytes ++ byte ∷ []) (margins ++ margin ∷ []) given to.old.items to.new.items }
     {
         let margins = self.margins.take(margin);
         match self.outer.take_byte(byte) {

@@ -1,5 +1,6 @@
 -- Words of the code RS(204,188) (EN 300 744, 4.3.2). A polynomial is the list of its coefficients, that of x^0 first.
-use Rattle.std.specs.Prelude.{◌≡◌, ℕ, zero, suc, ◌+◌, ◌<◌, ◌==◌, cond, List, [], ◌∷◌, ◌++◌, map, replicate, reverse, length, bit_xor}
+use Rattle.std.specs.Prelude.{◌≡◌, ℕ, zero, suc, ◌+◌, ◌<◌, ◌==◌, cond, List, [], ◌∷◌, ◌++◌, map, replicate, reverse}
+use Rattle.std.specs.Prelude.{length, bit_xor}
 use Rattle.std.specs.List.{AllByRecursion}
 use Rattle.gf256.specs.Field.{mul, power}
 

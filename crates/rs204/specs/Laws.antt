@@ -8,7 +8,8 @@ CodewordsApart = (v w : List ℕ) → IsCodeword v → IsCodeword w → v ≢ w 
 
 -- so at most one codeword is within distance 8 of a word
 abbrev pub OneIsNear : Type 0
-OneIsNear = (word v w : List ℕ) → length word ≡ 204 → IsCodeword v → IsCodeword w → distance word v ≤ 8 → distance word w ≤ 8 → v ≡ w
+OneIsNear = (word v w : List ℕ) → length word ≡ 204 → IsCodeword v → IsCodeword w → distance word v ≤ 8
+    → distance word w ≤ 8 → v ≡ w
 
 -- the codeword of a message is a codeword that begins with it
 pub record IsCodewordOf (message word : List ℕ) : Type 0 where
@@ -16,7 +17,8 @@ pub record IsCodewordOf (message word : List ℕ) : Type 0 where
   pub begins : take 188 word ≡ message
 
 abbrev pub MessageHasCodeword : Type 0
-MessageHasCodeword = (message : List ℕ) → length message ≡ 188 → AreBytes message → IsCodewordOf message (codeword message)
+MessageHasCodeword = (message : List ℕ) → length message ≡ 188 → AreBytes message
+    → IsCodewordOf message (codeword message)
 
 -- and it is the only one
 abbrev pub CodewordIsOne : Type 0

@@ -14,7 +14,8 @@ const FOURTH_HIGHEST: u128 = 0x1_00000000_00000000_00000000;
 /// leading coefficients are added to the others.
 #[inline]
 fn four_steps(register: u128, a: u8, b: u8, c: u8, d: u8) -> u128
-    ensures { (bytes : List ℕ) → Holds register bytes → Holds result (divided (divided (divided (divided bytes a) b) c) d) }
+    ensures { (bytes : List ℕ) → Holds register bytes → Holds result (divided (divided (divided (divided bytes a) b) c)
+        d) }
 {
     let next = a as u128 + b as u128 * 256 + c as u128 * 65536 + d as u128 * 16777216;
     let moved = register / 4294967296 + next * FOURTH_HIGHEST;

@@ -1,12 +1,14 @@
 // The steps shared by the decoders of this code: syndromes, a locator of the errors, and the correction of a word at
 // the locator's roots.
 
-ghost use Rattle.std.specs.Prelude.{◌≡◌, ◌+◌, ◌-◌, ◌<◌, ◌≤◌, ℕ, List, length, map, slice_index, bit_xor, take, IsTrue, ◌↔◌};
+ghost use Rattle.std.specs.Prelude.{◌≡◌, ◌+◌, ◌-◌, ◌<◌, ◌≤◌, ℕ, List, length, map, slice_index, bit_xor, take, IsTrue};
+ghost use Rattle.std.specs.Prelude.{◌↔◌};
 ghost use Rattle.gf256.specs.Field as field;
 ghost use Rattle.rs204.specs.Codes.{AreBytes, IsCodeword, distance, plus, rest_of};
 ghost use Rattle.rs204.specs.Polynomials.{IsNonzero, along};
 ghost use Rattle.rs204.specs.Kernels.{IsKernel, vector};
-ghost use Rattle.rs204.specs.Decoding.{AllDiffer, AreSyndromes, Differ, DifferAtRoots, HasFewRoots, IsLocator, IsSolution, Solves, Unscales, chosen, corrected, is_root};
+ghost use Rattle.rs204.specs.Decoding.{AllDiffer, AreSyndromes, Differ, DifferAtRoots, HasFewRoots, IsLocator};
+ghost use Rattle.rs204.specs.Decoding.{IsSolution, Solves, Unscales, chosen, corrected, is_root};
 ghost use Rattle.rs204.specs.Division.{Holds};
 ghost use Rattle.std.specs.List.{All};
 
@@ -17,7 +19,8 @@ use gf256::Elem;
 
 /// The values at the first sixteen powers of λ after one more coefficient.
 fn next_values(values: &mut [u8; 16], byte: u8)
-    ensures { (i : ℕ) → i < 16 → slice_index values.new i ≡ bit_xor (field.mul (slice_index values.old i) (field.power i)) byte }
+    ensures { (i : ℕ) → i < 16 → slice_index values.new i ≡ bit_xor (field.mul (slice_index values.old i)
+        (field.power i)) byte }
 {
     for i in 0..16u8 {
         let value = Elem(values[i as usize]);
@@ -38,7 +41,8 @@ fn values_of_rest(rest: &[u8; 16]) -> [u8; 16]
 
 /// The syndromes of a word, from its remainder after division by the generator.
 pub(crate) fn syndromes_by_rest(left: u128) -> [u8; 16]
-    ensures { (word : List ℕ) → length word ≡ 204 → AreBytes word → Holds left (rest_of 188 word) → AreSyndromes word result }
+    ensures { (word : List ℕ) → length word ≡ 204 → AreBytes word → Holds left (rest_of 188 word)
+        → AreSyndromes word result }
 {
     values_of_rest(&left.to_le_bytes())
 }
@@ -83,7 +87,8 @@ fn pivot(vectors: &[[u8; 9]; 9], last: usize, values: &[u8; 16], from: usize) ->
     requires from { from < 8 }
     requires last { last < 9 }
     ensures within { result ≤ last }
-    ensures cleared { along (vector vectors.now result) (λ j. slice_index values.now j) from ≡ 0 → (k : ℕ) → k ≤ last → along (vector vectors.now k) (λ j. slice_index values.now j) from ≡ 0 }
+    ensures cleared { along (vector vectors.now result) (λ j. slice_index values.now j) from ≡ 0 → (k : ℕ) → k ≤ last
+        → along (vector vectors.now k) (λ j. slice_index values.now j) from ≡ 0 }
 {
     for k in 0..=last {
         if product(&vectors[k], values, from) != 0 {
@@ -96,7 +101,8 @@ fn pivot(vectors: &[[u8; 9]; 9], last: usize, values: &[u8; 16], from: usize) ->
 /// Clears a vector with another one.
 fn clear(to: &mut [u8; 9], other: &[u8; 9], inverse: u8, values: &[u8; 16], from: usize)
     requires { from < 8 }
-    ensures { to.new ≡ plus to.old (map (field.mul (field.mul (along to.old (λ j. slice_index values.now j) from) inverse)) other.now) }
+    ensures { to.new ≡ plus to.old
+        (map (field.mul (field.mul (along to.old (λ j. slice_index values.now j) from) inverse)) other.now) }
 {
     let factor = mul(product(to, values, from), inverse);
     add_multiple(to, factor, other);
@@ -106,7 +112,8 @@ fn clear(to: &mut [u8; 9], other: &[u8; 9], inverse: u8, values: &[u8; 16], from
 fn reduce(vectors: &mut [[u8; 9]; 9], last: usize, values: &[u8; 16], from: usize)
     requires from { from < 8 }
     requires last { last < 9 }
-    ensures { (wide : ℕ) → IsKernel wide (last + 1) from values.now (vector vectors.old) → IsKernel wide last (from + 1) values.now (vector vectors.new) }
+    ensures { (wide : ℕ) → IsKernel wide (last + 1) from values.now (vector vectors.old)
+        → IsKernel wide last (from + 1) values.now (vector vectors.new) }
 {
     let at = pivot(vectors, last, values, from);
     vectors.swap(at, last);
@@ -204,7 +211,8 @@ pub fn places_apart(a: &[u8; 204], b: &[u8; 204]) -> u8
 pub fn take_out(moments: &mut [u8], place: u8)
     requires { 0 < length moments.old }
     ensures size { length moments.new ≡ length moments.old }
-    ensures each { (i : ℕ) → i + 1 < length moments.old → slice_index moments.new i ≡ bit_xor (slice_index moments.old (i + 1)) (field.mul place (slice_index moments.old i)) }
+    ensures each { (i : ℕ) → i + 1 < length moments.old → slice_index moments.new i
+        ≡ bit_xor (slice_index moments.old (i + 1)) (field.mul place (slice_index moments.old i)) }
 {
     for i in 0..moments.len() - 1 {
         moments[i] = moments[i + 1] ^ mul(place, moments[i]);

@@ -35,7 +35,8 @@ fn first_values(terms: &[u8; 17], count: usize) -> [u8; 16]
 fn advance(terms: &mut [u8; 17], count: usize)
     requires { count ≤ 17 }
     ensures size { length terms.new ≡ 17 }
-    ensures each { (k : ℕ) → k < count → slice_index terms.new k ≡ field.mul (slice_index terms.old k) (field.power (12 * k)) }
+    ensures each { (k : ℕ) → k < count → slice_index terms.new k
+        ≡ field.mul (slice_index terms.old k) (field.power (12 * k)) }
 {
     for j in 0..count {
         terms[j] = Elem(terms[j]).times_power(12 * j as u8).0;

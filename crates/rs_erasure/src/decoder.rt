@@ -73,7 +73,8 @@ pub fn decode_erased(word: &mut [u8; 204], erased: &[u8; 8]) -> Erased
     requires rising { IsStrictlyIncreasing erased.now }
     requires within { All (λ e. e < 204) erased.now }
     ensures decoded { DecodedOutside erased.now word.old word.new result }
-    ensures found { (n : ℕ) (c : List ℕ) → IsOutside word.old erased.now n c → (result ≡ Erased.Found n) × (word.new ≡ c) }
+    ensures found { (n : ℕ) (c : List ℕ) → IsOutside word.old erased.now n c → (result ≡ Erased.Found n)
+        × (word.new ≡ c) }
     ensures no_word { IsFarOutside word.old erased.now → result ≡ Erased.NoWord }
 {
     put_right(word, erased)

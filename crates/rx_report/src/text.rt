@@ -2,9 +2,8 @@
 ghost use Rattle.std.specs.Prelude.{◌≡◌, ◌≤◌, ◌<◌, ◌↔◌, Some, IsNone, IfSome, length, slice_get};
 ghost use Rattle.rx_report.specs.Text.{symbols_line, tps_line, stream_line, closing_lines, event_line};
 
-use crate::{Counts, Event, StreamCounts};
+use crate::{Counts, Event, Line, StreamCounts, name_of, push_count};
 use mode_set::Stream;
-use crate::{Line, name_of, push_count};
 
 fn symbols_line_of(counts: &Counts) -> Line
     ensures { result.bytes ≡ symbols_line counts.now }

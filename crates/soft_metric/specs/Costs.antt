@@ -1,5 +1,6 @@
 -- The costs of the two values of a coded bit, from the cell that carries it. The costs are this project's own.
-use Rattle.std.specs.Prelude.{◌≡◌, ℕ, ◌+◌, ◌/◌, ◌^◌, ◌<◌, ◌≤◌, min, Bool, true, false, not, List, [], ◌∷◌, map, filter, ℤ}
+use Rattle.std.specs.Prelude.{◌≡◌, ℕ, ◌+◌, ◌/◌, ◌^◌, ◌<◌, ◌≤◌, min, Bool, true, false, not, List, [], ◌∷◌, map, filter}
+use Rattle.std.specs.Prelude.{ℤ}
 use Rattle.std.specs.Bool.{beq}
 use Rattle.spec_words.specs.Bits.{bit}
 use Rattle.spec_words.specs.Words.{least}
@@ -32,7 +33,8 @@ pub record IsNear (s : Shape) (h : Hierarchy) (point cell : Cell) : Type 0 where
 
 -- close to the point of a label, each bit of the label costs at least 15 less than its complement
 abbrev pub NearPointsFavourTheirBits : Type 0
-NearPointsFavourTheirBits = (s : Shape) (h : Hierarchy) (y : ℕ → Bool) (cell : Cell) (e : ℕ) → e < label_bits s → IsNear s h (map_cell s h y) cell
+NearPointsFavourTheirBits = (s : Shape) (h : Hierarchy) (y : ℕ → Bool) (cell : Cell) (e : ℕ) → e < label_bits s
+    → IsNear s h (map_cell s h y) cell
     → cost s h (on_axis cell e) e (y e) + 15 ≤ cost s h (on_axis cell e) e (not (y e))
 
 -- at the point of a label, each bit of the label costs 0 and its complement at least 1

@@ -1,5 +1,6 @@
 -- The costs of an axis, from the sign and the magnitude of its value.
-use Rattle.std.specs.Prelude.{◌≡◌, ℕ, zero, suc, ◌+◌, ◌-◌, ◌/◌, ◌%◌, ◌^◌, ◌≤◌, min, nat_lt, Bool, if◌then◌else◌, List, slice_index, slice_index_or, ℤ, pos, neg_ℤ}
+use Rattle.std.specs.Prelude.{◌≡◌, ℕ, zero, suc, ◌+◌, ◌-◌, ◌/◌, ◌%◌, ◌^◌, ◌≤◌, min, nat_lt, Bool, if◌then◌else◌, List}
+use Rattle.std.specs.Prelude.{slice_index, slice_index_or, ℤ, pos, neg_ℤ}
 use Rattle.std.specs.Int.{abs_diff}
 
 -- the cost of a squared distance
@@ -23,7 +24,8 @@ pair_at cs k = slice_index_or cs k (0, 0)
 
 -- the points on the value's side are nearer, and of those on the other side the innermost is nearest
 pub record AreAxisCosts (levels : List ℕ) (positive : Bool) (m : ℕ) (cs : List (ℕ × ℕ)) : Type 0 where
-  pub same : (if positive then (pair_at cs 0).0 else (pair_at cs 0).1) ≡ scaled (min (min (near levels m 0) (near levels m 1)) (min (near levels m 2) (near levels m 3)))
+  pub same : (if positive then (pair_at cs 0).0 else (pair_at cs 0).1)
+      ≡ scaled (min (min (near levels m 0) (near levels m 1)) (min (near levels m 2) (near levels m 3)))
   pub other : (if positive then (pair_at cs 0).1 else (pair_at cs 0).0) ≡ scaled (far levels m 3)
   pub outer_zero : (pair_at cs 1).0 ≡ scaled (min (near levels m 0) (near levels m 1))
   pub outer_one : (pair_at cs 1).1 ≡ scaled (min (near levels m 2) (near levels m 3))
@@ -43,7 +45,8 @@ lane_value u = if lane_positive u then pos (lane_magnitude u) else neg_ℤ (pos 
 
 -- the lower distance to two levels on the value's side of 0
 abbrev pub near_two : List ℕ → ℕ → ℕ → ℕ → ℕ
-near_two levels u j k = min (abs_diff (lane_magnitude u) (slice_index levels j)) (abs_diff (lane_magnitude u) (slice_index levels k))
+near_two levels u j k = min (abs_diff (lane_magnitude u) (slice_index levels j))
+    (abs_diff (lane_magnitude u) (slice_index levels k))
 
 abbrev pub near_four : List ℕ → ℕ → ℕ
 near_four levels u = min (near_two levels u 0 1) (near_two levels u 2 3)

@@ -1,5 +1,6 @@
 // The costs of all bits of one axis.
-ghost use Rattle.std.specs.Prelude.{◌≡◌, ◌+◌, ◌*◌, ◌/◌, ◌^◌, ◌<◌, ◌≤◌, ℕ, min, if◌then◌else◌, length, slice_index, slice_index_or, true, false};
+ghost use Rattle.std.specs.Prelude.{◌≡◌, ◌+◌, ◌*◌, ◌/◌, ◌^◌, ◌<◌, ◌≤◌, ℕ, min, if◌then◌else◌, length, slice_index};
+ghost use Rattle.std.specs.Prelude.{slice_index_or, true, false};
 ghost use Rattle.std.specs.Int.{abs_diff};
 ghost use Rattle.mode_set.specs.Levels.{levels as levels_of};
 ghost use Rattle.mode_set.specs.StreamTable.{label_bits};
@@ -120,7 +121,8 @@ impl AxisMetric {
     /// place 0 or 1 of the label, then of places 2 or 3, and of places 4 or 5, as far as the label
     /// has them.
     pub fn costs(&self, x: i16) -> [(u16, u16); 3]
-        ensures costs { (e : ℕ) → e < label_bits self.now.0 → slice_index_or result (e / 2) (0, 0) ≡ (cost self.now.0 self.now.1 x e false, cost self.now.0 self.now.1 x e true) }
+        ensures costs { (e : ℕ) → e < label_bits self.now.0 → slice_index_or result (e / 2) (0, 0)
+            ≡ (cost self.now.0 self.now.1 x e false, cost self.now.0 self.now.1 x e true) }
         ensures small { (k : ℕ) → k < 3 → IsSmallPair (slice_index_or result k (0, 0)) }
     {
         costs_of(self.levels, x >= 0, x.unsigned_abs() as u32)
@@ -128,7 +130,8 @@ impl AxisMetric {
     /// The costs of the values 0 and 1 at a place of the label of each of sixteen cells.
     pub fn costs_lanes(&self, cells: &[Cell; 16], place: u8) -> [(u16, u16); 16]
         requires { place < label_bits self.now.0 }
-        ensures costs { (k : ℕ) (d : AnyCell) → k < 16 → slice_index_or result k (0, 0) ≡ costs_at_place self.now.0 self.now.1 (slice_index_or cells.now k d) place }
+        ensures costs { (k : ℕ) (d : AnyCell) → k < 16 → slice_index_or result k (0, 0)
+            ≡ costs_at_place self.now.0 self.now.1 (slice_index_or cells.now k d) place }
         ensures small { (k : ℕ) → k < 16 → IsSmallPair (slice_index_or result k (0, 0)) }
     {
         costs_by_lanes(self.shape, self.hierarchy, self.levels, cells, place)
@@ -141,9 +144,14 @@ impl AxisMetric {
         requires weights_long { length weights.now ≡ length cells.now }
         requires weights { (k : ℕ) → k < length cells.now → slice_index weights.now k ≤ 15 }
         requires room { label_bits self.now.0 * length cells.now ≤ length to.old }
-        ensures costs { (k e : ℕ) (d : AnyCell) → k < length cells.now → e < label_bits self.now.0 → slice_index_or to.new (e * length cells.now + k) (0, 0) ≡ weighted (costs_at_place self.now.0 self.now.1 (slice_index_or cells.now k d) e) (slice_index weights.now k) }
-        ensures small { (k : ℕ) → IsSmallPair (slice_index_or to.old k (0, 0)) → IsSmallPair (slice_index_or to.new k (0, 0)) }
-        ensures rest { (k : ℕ) → label_bits self.now.0 * length cells.now ≤ k → slice_index_or to.new k (0, 0) ≡ slice_index_or to.old k (0, 0) }
+        ensures costs { (k e : ℕ) (d : AnyCell) → k < length cells.now → e < label_bits self.now.0
+            → slice_index_or to.new (e * length cells.now + k) (0, 0)
+            ≡ weighted (costs_at_place self.now.0 self.now.1 (slice_index_or cells.now k d) e)
+            (slice_index weights.now k) }
+        ensures small { (k : ℕ) → IsSmallPair (slice_index_or to.old k (0, 0))
+            → IsSmallPair (slice_index_or to.new k (0, 0)) }
+        ensures rest { (k : ℕ) → label_bits self.now.0 * length cells.now ≤ k → slice_index_or to.new k (0, 0)
+            ≡ slice_index_or to.old k (0, 0) }
         ensures long { length to.new ≡ length to.old }
     {
         write_planes(self.shape, self.hierarchy, self.levels, cells, weights, to);

@@ -74,7 +74,8 @@ pub(crate) fn value_of(cell: Cell, place: u8) -> u16
 
 // Those of sixteen cells.
 pub(crate) fn values_of(cells: &[Cell; 16], place: u8) -> [u16; 16]
-    ensures { (k : ℕ) (d : AnyCell) → k < 16 → lane_value (slice_index result k) ≡ on_axis (slice_index_or cells.now k d) place }
+    ensures { (k : ℕ) (d : AnyCell) → k < 16 → lane_value (slice_index result k)
+        ≡ on_axis (slice_index_or cells.now k d) place }
 {
     let mut values = [0; 16];
     for k in 0..16 {
@@ -103,7 +104,8 @@ pub(crate) fn costs_by_lanes(
 ) -> [(u16, u16); 16]
     requires place { place < label_bits shape }
     requires levels { levels ≡ four_levels (levels_of shape hierarchy) }
-    ensures costs { (k : ℕ) (d : AnyCell) → k < 16 → pair_at result k ≡ costs_at_place shape hierarchy (slice_index_or cells.now k d) place }
+    ensures costs { (k : ℕ) (d : AnyCell) → k < 16 → pair_at result k
+        ≡ costs_at_place shape hierarchy (slice_index_or cells.now k d) place }
     ensures small { (k : ℕ) → k < 16 → IsSmallPair (pair_at result k) }
 {
     let values = u16x16::from_array(values_of(cells, place));

@@ -34,7 +34,8 @@ pub fn costs_lanes(
     place: u8,
 ) -> [(u16, u16); 16]
     requires { place < label_bits shape }
-    ensures costs { (k : ℕ) (d : AnyCell) → k < 16 → slice_index_or result k (0, 0) ≡ costs_at_place shape hierarchy (slice_index_or cells.now k d) place }
+    ensures costs { (k : ℕ) (d : AnyCell) → k < 16 → slice_index_or result k (0, 0)
+        ≡ costs_at_place shape hierarchy (slice_index_or cells.now k d) place }
     ensures small { (k : ℕ) → k < 16 → IsSmallPair (slice_index_or result k (0, 0)) }
 {
     AxisMetric::new(shape, hierarchy).costs_lanes(cells, place)

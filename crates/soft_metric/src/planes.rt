@@ -19,7 +19,8 @@ use std::simd::u16x16;
 // The values of sixteen cells in a row on the axis of a place, modulo 2^16.
 fn values_from(cells: &[Cell], first: usize, place: u8) -> [u16; 16]
     requires { first + 16 ≤ length cells.now }
-    ensures { (j : ℕ) (d : AnyCell) → j < 16 → lane_value (slice_index result j) ≡ on_axis (slice_index_or cells.now (first + j) d) place }
+    ensures { (j : ℕ) (d : AnyCell) → j < 16 → lane_value (slice_index result j)
+        ≡ on_axis (slice_index_or cells.now (first + j) d) place }
 {
     let mut values = [0; 16];
     for k in 0..16 {
@@ -67,7 +68,8 @@ fn write_lanes(
     requires weights { (k : ℕ) → k < 16 → slice_index weights k ≤ 15 }
     requires room { first + 16 ≤ length to.old }
     ensures long { length to.new ≡ length to.old }
-    ensures here { (k : ℕ) → k < 16 → pair_at to.new (first + k) ≡ weighted_by (lane_pair levels axis (slice_index values k)) (slice_index weights k) }
+    ensures here { (k : ℕ) → k < 16 → pair_at to.new (first + k)
+        ≡ weighted_by (lane_pair levels axis (slice_index values k)) (slice_index weights k) }
     ensures below { (k : ℕ) → k < first → pair_at to.new k ≡ pair_at to.old k }
     ensures above { (k : ℕ) → first + 16 ≤ k → pair_at to.new k ≡ pair_at to.old k }
 {
@@ -99,7 +101,8 @@ fn write_side(
     requires within { q + 16 ≤ length cells.now }
     requires room { label_bits shape * length cells.now ≤ length to.old }
     ensures writes { WritesCosts shape hierarchy cells.now weights.now to.old to.new }
-    ensures here { (e k : ℕ) → e < label_bits shape → e % 2 ≡ side → q ≤ k → k < q + 16 → IsWrittenAt shape hierarchy cells.now weights.now to.new e k }
+    ensures here { (e k : ℕ) → e < label_bits shape → e % 2 ≡ side → q ≤ k → k < q + 16
+        → IsWrittenAt shape hierarchy cells.now weights.now to.new e k }
 {
     let values = u16x16::from_array(values_from(cells, q, side));
     let lane_weights = u16x16::from_array(weights_from(weights, q));
@@ -125,7 +128,8 @@ fn write_sixteen(
     requires within { q + 16 ≤ length cells.now }
     requires room { label_bits shape * length cells.now ≤ length to.old }
     ensures writes { WritesCosts shape hierarchy cells.now weights.now to.old to.new }
-    ensures here { (e k : ℕ) → e < label_bits shape → q ≤ k → k < q + 16 → IsWrittenAt shape hierarchy cells.now weights.now to.new e k }
+    ensures here { (e k : ℕ) → e < label_bits shape → q ≤ k → k < q + 16
+        → IsWrittenAt shape hierarchy cells.now weights.now to.new e k }
 {
     write_side(shape, hierarchy, levels, cells, weights, 0, q, to);
     write_side(shape, hierarchy, levels, cells, weights, 1, q, to);
@@ -167,7 +171,8 @@ pub(crate) fn write_planes(
     requires weights { (k : ℕ) → k < length cells.now → slice_index weights.now k ≤ 15 }
     requires room { label_bits shape * length cells.now ≤ length to.old }
     ensures writes { WritesCosts shape hierarchy cells.now weights.now to.old to.new }
-    ensures here { (k e : ℕ) → k < length cells.now → e < label_bits shape → IsWrittenAt shape hierarchy cells.now weights.now to.new e k }
+    ensures here { (k e : ℕ) → k < length cells.now → e < label_bits shape
+        → IsWrittenAt shape hierarchy cells.now weights.now to.new e k }
 {
     let mut q = 0;
     while q + 16 <= cells.len() {

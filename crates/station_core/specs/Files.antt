@@ -1,5 +1,6 @@
 -- The files of a station in memory.
-use Rattle.std.specs.Prelude.{ℕ, Bool, true, false, List, [], ◌∷◌, map, if◌then◌else◌, slice_index_or, String, string_bytes, Vec}
+use Rattle.std.specs.Prelude.{ℕ, Bool, true, false, List, [], ◌∷◌, map, if◌then◌else◌, slice_index_or, String}
+use Rattle.std.specs.Prelude.{string_bytes, Vec}
 use Rattle.std.specs.Str.{bytes_eq}
 use Rattle.std.specs.declared.alloc.Global.{Global}
 

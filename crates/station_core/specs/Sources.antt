@@ -1,5 +1,6 @@
 -- The meaning of an input port of a station in memory.
-use Rattle.std.specs.Prelude.{◌≡◌, ◌≤◌, ℕ, min, take, Result, Ok, Err, List, [], length, drop, Option, None, Some, is_some}
+use Rattle.std.specs.Prelude.{◌≡◌, ◌≤◌, ℕ, min, take, Result, Ok, Err, List, [], length, drop, Option, None, Some}
+use Rattle.std.specs.Prelude.{is_some}
 use Rattle.std.specs.Option.{option_copied}
 use Rattle.station_core.specs.declared.station.Failed.{Failed}
 use Rattle.station_core.specs.declared.source.Reading.{Reading}

@@ -186,25 +186,83 @@ fn count_call(calls: &mut [u64], port: usize) -> u64
 
 #[tactic(auto, unfolding(crate::specs::Memory::memory_meaning))]
 impl<'a> Station<'a> for MemoryStation<'a> {
-    ghost use Rattle.std.specs.Prelude.{◌≡◌, ◌≢◌, ◌≤◌, ◌<◌, ◌↔◌, ◌⊎◌, ◌+◌, ◌/◌, ◌++◌, ℕ, min, take, length, IsErr, IsTrue, OnOk, OnErr, IfOk, Contains, true, false, None, []};
+    ghost use Rattle.std.specs.Prelude.{
+      ◌≡◌,
+      ◌≢◌,
+      ◌≤◌,
+      ◌<◌,
+      ◌↔◌,
+      ◌⊎◌,
+      ◌+◌,
+      ◌/◌,
+      ◌++◌,
+      ℕ,
+      min,
+      take,
+      length,
+      IsErr,
+      IsTrue,
+      OnOk,
+      OnErr,
+      IfOk,
+      Contains,
+      true,
+      false,
+      None,
+      [],
+    };
     ghost use Rattle.station_core.specs.Causes.{Rose, greatest_count};
-    ghost use Rattle.station_core.specs.Meaning.{source_at, sink_at, with_source, with_sink, with_written, with_read_faults, with_write_faults, with_close_faults, with_failed_write, flushed, asked_source, attached_source, read_source, asked_sink, created_sink, written_sink, closed_sink};
+    ghost use Rattle.station_core.specs.Meaning.{
+      source_at,
+      sink_at,
+      with_source,
+      with_sink,
+      with_written,
+      with_read_faults,
+      with_write_faults,
+      with_close_faults,
+      with_failed_write,
+      flushed,
+      asked_source,
+      attached_source,
+      read_source,
+      asked_sink,
+      created_sink,
+      written_sink,
+      closed_sink,
+    };
     ghost use Rattle.station_core.specs.declared.ports.OutPort.TheVariants.{Report};
     ghost use Rattle.station_core.specs.Files.{has_file};
-    ghost use Rattle.station_core.specs.Memory.{memory_meaning, files_of, failing_of, most_of, room_of, reads_of, writes_of, in_number, out_number, IsSamePlan};
+    ghost use Rattle.station_core.specs.Memory.{
+      memory_meaning,
+      files_of,
+      failing_of,
+      most_of,
+      room_of,
+      reads_of,
+      writes_of,
+      in_number,
+      out_number,
+      IsSamePlan,
+    };
     ghost use Rattle.station_core.specs.Counted.{next_call, counted};
 
     ghost meaning = { memory_meaning };
 
     fn attach(&mut self, port: InPort, name: &'a str) -> Result<(), Failed>
         requires { (source_at port (memory_meaning self.old)).asked ≡ None }
-        ensures ok { OnOk result (memory_meaning self.new ≡ with_source port (attached_source name.now ((memory_meaning self.old).file name.now) (source_at port (memory_meaning self.old))) (memory_meaning self.old)) }
+        ensures ok { OnOk result (memory_meaning self.new ≡ with_source port (attached_source name.now
+            ((memory_meaning self.old).file name.now) (source_at port (memory_meaning self.old)))
+            (memory_meaning self.old)) }
         ensures err { OnErr result (memory_meaning self.new ≡ with_read_faults (memory_meaning self.new).read_faults
-            (with_source port (asked_source name.now (source_at port (memory_meaning self.old))) (memory_meaning self.old))) }
-        ensures cause { OnErr result (Rose (memory_meaning self.old).read_faults (memory_meaning self.new).read_faults) }
+            (with_source port (asked_source name.now (source_at port (memory_meaning self.old)))
+            (memory_meaning self.old))) }
+        ensures cause { OnErr result (Rose (memory_meaning self.old).read_faults
+            (memory_meaning self.new).read_faults) }
         ensures later { (memory_meaning self.old).read_faults ≤ (memory_meaning self.new).read_faults }
         ensures bounded { OnErr result ((memory_meaning self.new).read_faults ≤ greatest_count) }
-        ensures exact { IsErr result ↔ (Contains (failing_of self.old) (Failing.Attach port 1) ⊎ (has_file (files_of self.old) name.now ≡ false)) }
+        ensures exact { IsErr result ↔ (Contains (failing_of self.old) (Failing.Attach port 1) ⊎
+            (has_file (files_of self.old) name.now ≡ false)) }
         ensures plan { IsSamePlan self.old self.new }
         ensures reads { reads_of self.new ≡ reads_of self.old }
         ensures writes { writes_of self.new ≡ writes_of self.old }
@@ -224,16 +282,24 @@ impl<'a> Station<'a> for MemoryStation<'a> {
         requires attached { (source_at port (memory_meaning self.old)).attached ≡ true }
         requires room { 0 < length buf.old }
         ensures bound { IfOk result (λ n. n ≤ length buf.new) }
-        ensures ok { IfOk result (λ n. memory_meaning self.new ≡ with_source port (read_source n (source_at port (memory_meaning self.old))) (memory_meaning self.old)) }
-        ensures bytes { IfOk result (λ n. IsTrue (memory_meaning self.old).tells → take n buf.new ≡ take n (source_at port (memory_meaning self.old)).left) }
-        ensures some { IfOk result (λ n. IsTrue (memory_meaning self.old).tells → n ≤ length (source_at port (memory_meaning self.old)).left) }
-        ensures end { IfOk result (λ n. IsTrue (memory_meaning self.old).tells → n ≡ 0 → (source_at port (memory_meaning self.old)).left ≡ []) }
-        ensures err { OnErr result (memory_meaning self.new ≡ with_read_faults (memory_meaning self.new).read_faults (memory_meaning self.old)) }
-        ensures cause { OnErr result (Rose (memory_meaning self.old).read_faults (memory_meaning self.new).read_faults) }
+        ensures ok { IfOk result (λ n. memory_meaning self.new
+            ≡ with_source port (read_source n (source_at port (memory_meaning self.old))) (memory_meaning self.old)) }
+        ensures bytes { IfOk result (λ n. IsTrue (memory_meaning self.old).tells → take n buf.new
+            ≡ take n (source_at port (memory_meaning self.old)).left) }
+        ensures some { IfOk result (λ n. IsTrue (memory_meaning self.old).tells
+            → n ≤ length (source_at port (memory_meaning self.old)).left) }
+        ensures end { IfOk result (λ n. IsTrue (memory_meaning self.old).tells → n ≡ 0
+            → (source_at port (memory_meaning self.old)).left ≡ []) }
+        ensures err { OnErr result (memory_meaning self.new ≡ with_read_faults (memory_meaning self.new).read_faults
+            (memory_meaning self.old)) }
+        ensures cause { OnErr result (Rose (memory_meaning self.old).read_faults
+            (memory_meaning self.new).read_faults) }
         ensures later { (memory_meaning self.old).read_faults ≤ (memory_meaning self.new).read_faults }
         ensures bounded { OnErr result ((memory_meaning self.new).read_faults ≤ greatest_count) }
-        ensures exact { IsErr result ↔ Contains (failing_of self.old) (Failing.Read port (next_call (reads_of self.old) (in_number port))) }
-        ensures amount { IfOk result (λ n. n ≡ min (min (most_of self.old) (length buf.old)) (length (source_at port (memory_meaning self.old)).left)) }
+        ensures exact { IsErr result ↔ Contains (failing_of self.old)
+            (Failing.Read port (next_call (reads_of self.old) (in_number port))) }
+        ensures amount { IfOk result (λ n. n ≡ min (min (most_of self.old) (length buf.old)) (length
+            (source_at port (memory_meaning self.old)).left)) }
         ensures plan { IsSamePlan self.old self.new }
         ensures reads { reads_of self.new ≡ counted (reads_of self.old) (in_number port) }
         ensures writes { writes_of self.new ≡ writes_of self.old }
@@ -254,10 +320,12 @@ impl<'a> Station<'a> for MemoryStation<'a> {
     fn create(&mut self, port: OutPort, name: &'a str) -> Result<(), Failed>
         requires asked { (sink_at port (memory_meaning self.old)).asked ≡ None }
         requires port { port ≢ Report }
-        ensures ok { OnOk result (memory_meaning self.new ≡ with_sink port (created_sink name.now (sink_at port (memory_meaning self.old))) (memory_meaning self.old)) }
+        ensures ok { OnOk result (memory_meaning self.new ≡ with_sink port (created_sink name.now
+            (sink_at port (memory_meaning self.old))) (memory_meaning self.old)) }
         ensures err { OnErr result (memory_meaning self.new ≡ with_write_faults (memory_meaning self.new).write_faults
             (with_sink port (asked_sink name.now (sink_at port (memory_meaning self.old))) (memory_meaning self.old))) }
-        ensures cause { OnErr result (Rose (memory_meaning self.old).write_faults (memory_meaning self.new).write_faults) }
+        ensures cause { OnErr result (Rose (memory_meaning self.old).write_faults
+            (memory_meaning self.new).write_faults) }
         ensures later { (memory_meaning self.old).write_faults ≤ (memory_meaning self.new).write_faults }
         ensures bounded { OnErr result ((memory_meaning self.new).write_faults ≤ greatest_count) }
         ensures exact { IsErr result ↔ Contains (failing_of self.old) (Failing.Create port 1) }
@@ -280,20 +348,30 @@ impl<'a> Station<'a> for MemoryStation<'a> {
         requires created { (sink_at port (memory_meaning self.old)).created ≡ true }
         requires open { (sink_at port (memory_meaning self.old)).closed ≡ false }
         requires some { 0 < length bytes.now }
-        ensures ok { OnOk result (memory_meaning self.new ≡ with_written port (written_sink (memory_meaning self.old).tells bytes.now (sink_at port (memory_meaning self.old))) (memory_meaning self.old)) }
-        ensures err { OnErr result ((n : ℕ) × (memory_meaning self.new ≡ with_failed_write port (memory_meaning self.new).write_faults (memory_meaning self.new).report_faults
-            (with_written port (written_sink (memory_meaning self.old).tells (take n bytes.now) (sink_at port (memory_meaning self.old))) (memory_meaning self.old)))) }
-        ensures cause { OnErr result (Rose (memory_meaning self.old).write_faults (memory_meaning self.new).write_faults) }
-        ensures at_report { OnErr result (port ≡ Report → Rose (memory_meaning self.old).report_faults (memory_meaning self.new).report_faults) }
+        ensures ok { OnOk result (memory_meaning self.new ≡ with_written port (written_sink
+            (memory_meaning self.old).tells bytes.now (sink_at port (memory_meaning self.old)))
+            (memory_meaning self.old)) }
+        ensures err { OnErr result ((n : ℕ) × (memory_meaning self.new ≡ with_failed_write port
+            (memory_meaning self.new).write_faults (memory_meaning self.new).report_faults
+            (with_written port (written_sink (memory_meaning self.old).tells (take n bytes.now)
+            (sink_at port (memory_meaning self.old))) (memory_meaning self.old)))) }
+        ensures cause { OnErr result (Rose (memory_meaning self.old).write_faults
+            (memory_meaning self.new).write_faults) }
+        ensures at_report { OnErr result (port ≡ Report → Rose (memory_meaning self.old).report_faults
+            (memory_meaning self.new).report_faults) }
         ensures later { (memory_meaning self.old).write_faults ≤ (memory_meaning self.new).write_faults }
         ensures later_report { (memory_meaning self.old).report_faults ≤ (memory_meaning self.new).report_faults }
         ensures bounded { OnErr result ((memory_meaning self.new).write_faults ≤ greatest_count) }
-        ensures exact { IsErr result ↔ (Contains (failing_of self.old) (Failing.Write port (next_call (writes_of self.old) (out_number port)))
+        ensures exact { IsErr result ↔ (Contains (failing_of self.old)
+            (Failing.Write port (next_call (writes_of self.old) (out_number port)))
             ⊎ (room_of port self.old < length (sink_at port (memory_meaning self.old)).written + length bytes.now)) }
-        ensures half { Contains (failing_of self.old) (Failing.Write port (next_call (writes_of self.old) (out_number port)))
+        ensures half { Contains (failing_of self.old) (Failing.Write port
+            (next_call (writes_of self.old) (out_number port)))
             → length (sink_at port (memory_meaning self.old)).written + length bytes.now ≤ room_of port self.old
-            → (sink_at port (memory_meaning self.new)).written ≡ (sink_at port (memory_meaning self.old)).written ++ take (length bytes.now / 2) bytes.now }
-        ensures no_room { room_of port self.old < length (sink_at port (memory_meaning self.old)).written + length bytes.now
+            → (sink_at port (memory_meaning self.new)).written ≡ (sink_at port (memory_meaning self.old)).written
+            ++ take (length bytes.now / 2) bytes.now }
+        ensures no_room { room_of port self.old < length (sink_at port (memory_meaning self.old)).written
+            + length bytes.now
             → (sink_at port (memory_meaning self.new)).written ≡ (sink_at port (memory_meaning self.old)).written }
         ensures plan { IsSamePlan self.old self.new }
         ensures reads { reads_of self.new ≡ reads_of self.old }
@@ -325,8 +403,10 @@ impl<'a> Station<'a> for MemoryStation<'a> {
 
     fn flush(&mut self) -> Result<(), Failed>
         ensures ok { OnOk result (memory_meaning self.new ≡ flushed (memory_meaning self.old)) }
-        ensures err { OnErr result (memory_meaning self.new ≡ with_write_faults (memory_meaning self.new).write_faults (memory_meaning self.old)) }
-        ensures cause { OnErr result (Rose (memory_meaning self.old).write_faults (memory_meaning self.new).write_faults) }
+        ensures err { OnErr result (memory_meaning self.new ≡ with_write_faults (memory_meaning self.new).write_faults
+            (memory_meaning self.old)) }
+        ensures cause { OnErr result (Rose (memory_meaning self.old).write_faults
+            (memory_meaning self.new).write_faults) }
         ensures later { (memory_meaning self.old).write_faults ≤ (memory_meaning self.new).write_faults }
         ensures bounded { OnErr result ((memory_meaning self.new).write_faults ≤ greatest_count) }
         ensures exact { IsErr result ↔ Contains (failing_of self.old) Failing.Flush }
@@ -344,10 +424,12 @@ impl<'a> Station<'a> for MemoryStation<'a> {
     fn close(&mut self, port: OutPort) -> Result<(), Failed>
         requires created { (sink_at port (memory_meaning self.old)).created ≡ true }
         requires open { (sink_at port (memory_meaning self.old)).closed ≡ false }
-        ensures ok { OnOk result (memory_meaning self.new ≡ with_sink port (closed_sink (sink_at port (memory_meaning self.old))) (memory_meaning self.old)) }
+        ensures ok { OnOk result (memory_meaning self.new ≡ with_sink port (closed_sink
+            (sink_at port (memory_meaning self.old))) (memory_meaning self.old)) }
         ensures err { OnErr result (memory_meaning self.new ≡ with_close_faults (memory_meaning self.new).close_faults
             (with_sink port (closed_sink (sink_at port (memory_meaning self.old))) (memory_meaning self.old))) }
-        ensures cause { OnErr result (Rose (memory_meaning self.old).close_faults (memory_meaning self.new).close_faults) }
+        ensures cause { OnErr result (Rose (memory_meaning self.old).close_faults
+            (memory_meaning self.new).close_faults) }
         ensures later { (memory_meaning self.old).close_faults ≤ (memory_meaning self.new).close_faults }
         ensures bounded { OnErr result ((memory_meaning self.new).close_faults ≤ greatest_count) }
         ensures exact { IsErr result ↔ Contains (failing_of self.old) (Failing.Close port 1) }

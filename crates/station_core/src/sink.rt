@@ -1,5 +1,6 @@
 // An output port of a station in memory. Its memory is allocated at the start.
-ghost use Rattle.std.specs.Prelude.{◌≡◌, ◌≤◌, ◌<◌, ◌↔◌, ◌⊎◌, ◌+◌, ◌/◌, ◌++◌, ℕ, length, take, vec_capacity, true, OnOk, OnErr, IfOk, IsTrue, IsErr};
+ghost use Rattle.std.specs.Prelude.{◌≡◌, ◌≤◌, ◌<◌, ◌↔◌, ◌⊎◌, ◌+◌, ◌/◌, ◌++◌, ℕ, length, take, vec_capacity, true, OnOk};
+ghost use Rattle.std.specs.Prelude.{OnErr, IfOk, IsTrue, IsErr};
 ghost use Rattle.station_core.specs.Causes.{Rose, greatest_count};
 
 use crate::Failed;
@@ -21,7 +22,25 @@ pub struct Writing<'a> {
 impl<'a> Writing<'a> {
     ghost use Rattle.station_core.specs.Meaning.{asked_sink, created_sink, written_sink, closed_sink, no_sink};
     ghost use Rattle.station_core.specs.Sinks.{sink_of};
-    ghost use Rattle.std.specs.Prelude.{◌≡◌, ◌≤◌, ◌<◌, ◌↔◌, ◌⊎◌, ◌+◌, ◌/◌, ◌++◌, ℕ, length, take, true, OnOk, OnErr, IfOk, IsTrue, IsErr};
+    ghost use Rattle.std.specs.Prelude.{
+      ◌≡◌,
+      ◌≤◌,
+      ◌<◌,
+      ◌↔◌,
+      ◌⊎◌,
+      ◌+◌,
+      ◌/◌,
+      ◌++◌,
+      ℕ,
+      length,
+      take,
+      true,
+      OnOk,
+      OnErr,
+      IfOk,
+      IsTrue,
+      IsErr,
+    };
     ghost use Rattle.station_core.specs.Causes.{Rose, greatest_count};
 
     // A port where no name was requested, with a capacity of `room` bytes.
@@ -65,11 +84,14 @@ impl<'a> Writing<'a> {
     // Writes all the bytes; half of them if set to fail, none if they do not fit.
     pub fn write(&mut self, fails: bool, bytes: &[u8], faults: &mut u64) -> Result<(), Failed>
         ensures ok { OnOk result (sink_of self.new ≡ written_sink true bytes.now (sink_of self.old)) }
-        ensures err { OnErr result ((n : ℕ) × (sink_of self.new ≡ written_sink true (take n bytes.now) (sink_of self.old))) }
-        ensures exact { IsErr result ↔ (IsTrue fails ⊎ (self.old.room < length self.old.bytes.items + length bytes.now)) }
+        ensures err { OnErr result ((n : ℕ) × (sink_of self.new ≡ written_sink true (take n bytes.now)
+            (sink_of self.old))) }
+        ensures exact { IsErr result ↔
+            (IsTrue fails ⊎ (self.old.room < length self.old.bytes.items + length bytes.now)) }
         ensures half { IsTrue fails → length self.old.bytes.items + length bytes.now ≤ self.old.room
             → self.new.bytes.items ≡ self.old.bytes.items ++ take (length bytes.now / 2) bytes.now }
-        ensures no_room { self.old.room < length self.old.bytes.items + length bytes.now → self.new.bytes.items ≡ self.old.bytes.items }
+        ensures no_room { self.old.room < length self.old.bytes.items + length bytes.now → self.new.bytes.items
+            ≡ self.old.bytes.items }
         ensures room { self.new.room ≡ self.old.room }
         ensures here { OnOk result (self.new.faults ≡ self.old.faults) }
         ensures here_rose { OnErr result (Rose self.old.faults self.new.faults) }

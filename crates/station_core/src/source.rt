@@ -1,5 +1,6 @@
 // An input port of a station in memory, and the files that it reads.
-ghost use Rattle.std.specs.Prelude.{◌≡◌, ◌≤◌, ◌<◌, ◌↔◌, ◌⊎◌, min, length, take, is_some, true, false, IfSome, IsNone, OnOk, OnErr, IsTrue, IsErr};
+ghost use Rattle.std.specs.Prelude.{◌≡◌, ◌≤◌, ◌<◌, ◌↔◌, ◌⊎◌, min, length, take, is_some, true, false, IfSome, IsNone};
+ghost use Rattle.std.specs.Prelude.{OnOk, OnErr, IsTrue, IsErr};
 ghost use Rattle.station_core.specs.Causes.{Rose, greatest_count};
 ghost use Rattle.station_core.specs.Files.{Files, content_at, found, has_file};
 
@@ -53,7 +54,21 @@ impl<'a> Reading<'a> {
     ghost use Rattle.station_core.specs.Meaning.{attached_source, asked_source, no_source};
     ghost use Rattle.station_core.specs.Sources.{source_of, Reads, ReadsOrFails};
     ghost use Rattle.station_core.specs.Files.{Files, found, has_file};
-    ghost use Rattle.std.specs.Prelude.{◌≡◌, ◌≤◌, ◌<◌, ◌↔◌, ◌⊎◌, length, is_some, true, false, OnOk, OnErr, IsTrue, IsErr};
+    ghost use Rattle.std.specs.Prelude.{
+      ◌≡◌,
+      ◌≤◌,
+      ◌<◌,
+      ◌↔◌,
+      ◌⊎◌,
+      length,
+      is_some,
+      true,
+      false,
+      OnOk,
+      OnErr,
+      IsTrue,
+      IsErr,
+    };
     ghost use Rattle.station_core.specs.Causes.{Rose, greatest_count};
 
     // A port where no name was requested.
@@ -75,8 +90,10 @@ impl<'a> Reading<'a> {
         name: &'a str,
         faults: &mut u64,
     ) -> Result<(), Failed>
-        ensures ok { OnOk result (source_of files.now self.new ≡ attached_source name.now (found files.now name.now) (source_of files.now self.old)) }
-        ensures err { OnErr result (source_of files.now self.new ≡ asked_source name.now (source_of files.now self.old)) }
+        ensures ok { OnOk result (source_of files.now self.new
+            ≡ attached_source name.now (found files.now name.now) (source_of files.now self.old)) }
+        ensures err { OnErr result (source_of files.now self.new
+            ≡ asked_source name.now (source_of files.now self.old)) }
         ensures exact { IsErr result ↔ (IsTrue fails ⊎ (has_file files.now name.now ≡ false)) }
         ensures uncounted { OnOk result (faults.new ≡ faults.old) }
         ensures cause { OnErr result (Rose faults.old faults.new) }

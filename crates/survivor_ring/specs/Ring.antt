@@ -1,5 +1,6 @@
 -- The bits of decision words, and the traceback through them.
-use Rattle.std.specs.Prelude.{◌≡◌, ℕ, ◌+◌, ◌-◌, ◌*◌, ◌/◌, ◌%◌, ◌<◌, ◌≤◌, ◌==◌, length, slice_index, Bool, true, false, cond, not, ◌&&◌, ◌||◌, List, [], ◌∷◌, ◌++◌, IsTrue, ◌⊎◌}
+use Rattle.std.specs.Prelude.{◌≡◌, ℕ, ◌+◌, ◌-◌, ◌*◌, ◌/◌, ◌%◌, ◌<◌, ◌≤◌, ◌==◌, length, slice_index, Bool, true, false}
+use Rattle.std.specs.Prelude.{cond, not, ◌&&◌, ◌||◌, List, [], ◌∷◌, ◌++◌, IsTrue, ◌⊎◌}
 use Rattle.std.specs.Bool.{nat_lt}
 use Rattle.spec_words.specs.Bits.{bit, is_set}
 use Rattle.code_paths.specs.States.{before}
@@ -18,11 +19,13 @@ trace (d ∷ ws) n = is_set (root ws n) 5 ∷ trace ws n
 -- byte that begins at or after it has its eight.
 pub record IsTraced (bits : List Bool) (from last : ℕ) (bytes : List ℕ) : Type 0 where
   pub last_is : (j : ℕ) → j < 8 → from + j < length bits → is_set last (7 - j) ≡ bit bits (from + j)
-  pub bytes_are : (b j : ℕ) → j < 8 → from ≤ 8 * b → 8 * b + j < length bits → is_set (slice_index bytes b) (7 - j) ≡ bit bits (8 * b + j)
+  pub bytes_are : (b j : ℕ) → j < 8 → from ≤ 8 * b → 8 * b + j < length bits → is_set (slice_index bytes b) (7 - j)
+      ≡ bit bits (8 * b + j)
 
 -- one more word: the trace of the predecessor state, then the newest bit of the state
 abbrev pub TraceFollows : Type 0
-TraceFollows = (words : List ℕ) (word n : ℕ) → trace (words ++ word ∷ []) n ≡ trace words (before word n) ++ is_set n 5 ∷ []
+TraceFollows = (words : List ℕ) (word n : ℕ) → trace (words ++ word ∷ []) n ≡ trace words (before word n) ++ is_set n 5
+    ∷ []
 
 -- one move of bits to higher indices
 abbrev pub moved : (ℕ → Bool) → ℕ → (ℕ → Bool) → ℕ → Bool

@@ -1,5 +1,6 @@
 -- Rows of bits, one for each state.
-use Rattle.std.specs.Prelude.{◌≡◌, ℕ, zero, suc, ◌+◌, ◌<◌, ◌∷◌, ◌++◌, Bool, List, [], length, take, drop, slice_index_or, false, IsTrue, ◌-◌}
+use Rattle.std.specs.Prelude.{◌≡◌, ℕ, zero, suc, ◌+◌, ◌<◌, ◌∷◌, ◌++◌, Bool, List, [], length, take, drop}
+use Rattle.std.specs.Prelude.{slice_index_or, false, IsTrue, ◌-◌}
 use Rattle.std.specs.Global.{Vec}
 use Rattle.spec_words.specs.Bits.{is_set}
 use Rattle.code_paths.specs.States.{before}
@@ -15,14 +16,18 @@ pub record AreSized (len : ℕ) (rows : Rows) : Type 0 where
 
 -- the first bits of row n are those of its predecessor's old row, then the newest bit of n
 pub record EachPushed (old new : Rows) (count answer : ℕ) (states : ℕ) : Type 0 where
-  pub each : (n : ℕ) (d e : Vec Bool) → n < states → take (count + 1) (slice_index_or new n d).items ≡ take count (slice_index_or old (before answer n) e).items ++ is_set n 5 ∷ []
+  pub each : (n : ℕ) (d e : Vec Bool) → n < states → take (count + 1) (slice_index_or new n d).items
+      ≡ take count (slice_index_or old (before answer n) e).items ++ is_set n 5 ∷ []
 
 -- the rows of the alive states have the same bit at an index
 abbrev pub Agree : Rows → ℕ → ℕ → ℕ → ℕ → Type 0
-Agree rows live first place states = (n : ℕ) (d e : Vec Bool) → n < states → IsTrue (is_set live n) → slice_index_or (slice_index_or rows n d).items place false ≡ slice_index_or (slice_index_or rows first e).items place false
+Agree rows live first place states = (n : ℕ) (d e : Vec Bool) → n < states → IsTrue (is_set live n)
+    → slice_index_or (slice_index_or rows n d).items place false
+    ≡ slice_index_or (slice_index_or rows first e).items place false
 
 pub record EachShifted (old new : Rows) (number count : ℕ) (states : ℕ) : Type 0 where
-  pub each : (n : ℕ) (d e : Vec Bool) → n < states → take (count - number) (slice_index_or new n d).items ≡ drop number (take count (slice_index_or old n e).items)
+  pub each : (n : ℕ) (d e : Vec Bool) → n < states → take (count - number) (slice_index_or new n d).items
+      ≡ drop number (take count (slice_index_or old n e).items)
 
 -- row n, or no bits past the last row
 abbrev pub bits_of_row : Rows → ℕ → List Bool

@@ -21,7 +21,8 @@ pub record AreAllPushed (old : ℕ → List Bool) (words : List ℕ) (new : ℕ 
 
 -- the first k bits of all alive states are the same
 abbrev pub AreAlike : ℕ → (ℕ → List Bool) → ℕ → Type 0
-AreAlike live waits k = (m n : ℕ) → m < 64 → n < 64 → IsTrue (is_set live m) → IsTrue (is_set live n) → take k (waits m) ≡ take k (waits n)
+AreAlike live waits k = (m n : ℕ) → m < 64 → n < 64 → IsTrue (is_set live m) → IsTrue (is_set live n) → take k (waits m)
+    ≡ take k (waits n)
 
 -- k is the length of the longest common prefix of the bits of all alive states
 pub record IsAlike (live : ℕ) (waits : ℕ → List Bool) (waiting k : ℕ) : Type 0 where

@@ -1,9 +1,11 @@
 // Survivors as decision words.
-ghost use Rattle.std.specs.Prelude.{◌≡◌, ◌≢◌, ◌+◌, ◌-◌, ◌*◌, ◌/◌, ◌%◌, ◌<◌, ◌≤◌, ◌==◌, ℕ, Bool, List, [], ◌∷◌, ◌++◌, ◌&&◌, ◌||◌, length, take, drop, IsTrue};
+ghost use Rattle.std.specs.Prelude.{◌≡◌, ◌≢◌, ◌+◌, ◌-◌, ◌*◌, ◌/◌, ◌%◌, ◌<◌, ◌≤◌, ◌==◌, ℕ, Bool, List, [], ◌∷◌, ◌++◌};
+ghost use Rattle.std.specs.Prelude.{◌&&◌, ◌||◌, length, take, drop, IsTrue};
 ghost use Rattle.spec_words.specs.Bits.{is_set, spelled};
 ghost use Rattle.code_paths.specs.States.{before};
 ghost use Rattle.survivor_ring.specs.Survivors.{IsAlike};
-ghost use Rattle.survivor_ring.specs.Ring.{TraceFollows, root, trace, IsTraced, moved, AreBefore, IsSplit, IsUniform, IsSingle, Chosen};
+ghost use Rattle.survivor_ring.specs.Ring.{TraceFollows, root, trace, IsTraced, moved, AreBefore, IsSplit, IsUniform};
+ghost use Rattle.survivor_ring.specs.Ring.{IsSingle, Chosen};
 ghost use Rattle.std.specs.Prelude.{slice_index, IsFalse, ◌^◌};
 ghost use Rattle.bit_pack.specs.Queue.{bits_of_bytes};
 
@@ -92,7 +94,8 @@ fn trace_steps(
     ensures root { result.0 ≡ root words.now state }
     ensures small { result.0 < 64 }
     ensures byte { result.1 < 256 }
-    ensures traced { (bits : List Bool) → take (length words.now) (drop place bits) ≡ trace words.now state → IsTraced bits (place + length words.now) byte bytes.old → IsTraced bits place result.1 bytes.new }
+    ensures traced { (bits : List Bool) → take (length words.now) (drop place bits) ≡ trace words.now state
+        → IsTraced bits (place + length words.now) byte bytes.old → IsTraced bits place result.1 bytes.new }
 {
     let count = words.len();
     let mut now = state;
@@ -233,7 +236,8 @@ fn trace_part(
     ensures root { result.0 ≡ root words.now state }
     ensures small { result.0 < 64 }
     ensures byte { result.1 < 256 }
-    ensures traced { (bits : List Bool) → take (length words.now) (drop place bits) ≡ trace words.now state → IsTraced bits (place + length words.now) byte bytes.old → IsTraced bits place result.1 bytes.new }
+    ensures traced { (bits : List Bool) → take (length words.now) (drop place bits) ≡ trace words.now state
+        → IsTraced bits (place + length words.now) byte bytes.old → IsTraced bits place result.1 bytes.new }
 {
     let count = words.len();
     let low = (8 - place % 8) % 8;
@@ -338,7 +342,8 @@ impl<const L: usize> RingSurvivors<L> {
     /// state.
     pub fn words(&self) -> &HeapCircularBuffer<u64>
         ensures number { length result.now.items ≡ ⟦<RingSurvivors<L> as Survivors<L>>⟧.count self.now }
-        ensures trace { (n : ℕ) → n < 64 → IsTrue (is_set (⟦<RingSurvivors<L> as Survivors<L>>⟧.states self.now) n) → ⟦<RingSurvivors<L> as Survivors<L>>⟧.list self.now n ≡ trace result.now.items n }
+        ensures trace { (n : ℕ) → n < 64 → IsTrue (is_set (⟦<RingSurvivors<L> as Survivors<L>>⟧.states self.now) n)
+            → ⟦<RingSurvivors<L> as Survivors<L>>⟧.list self.now n ≡ trace result.now.items n }
     {
         &self.words
     }

@@ -1,5 +1,6 @@
 // The definition of survivors.
-ghost use Rattle.std.specs.Prelude.{◌≡◌, ◌≢◌, ◌+◌, ◌-◌, ◌<◌, ◌≤◌, ◌^◌, ℕ, Bool, List, [], ◌++◌, length, drop, IfOk, IsTrue};
+ghost use Rattle.std.specs.Prelude.{◌≡◌, ◌≢◌, ◌+◌, ◌-◌, ◌<◌, ◌≤◌, ◌^◌, ℕ, Bool, List, [], ◌++◌, length, drop, IfOk};
+ghost use Rattle.std.specs.Prelude.{IsTrue};
 ghost use Rattle.spec_words.specs.Bits.{is_set};
 ghost use Rattle.survivor_ring.specs.Survivors.{IsPushed, IsFollowed, AreAllPushed, AreAlike, IsAlike, GivesAway};
 
@@ -66,7 +67,8 @@ pub trait Survivors<const L: usize>: Drop {
         requires room { length to.old + number ≤ 36864 }
         ensures states { states self.new ≡ states self.old }
         ensures count { count self.new ≡ count self.old - number }
-        ensures list { (n : ℕ) → n < 64 → IsTrue (is_set (states self.old) n) → list self.new n ≡ drop number (list self.old n) }
+        ensures list { (n : ℕ) → n < 64 → IsTrue (is_set (states self.old) n) → list self.new n
+            ≡ drop number (list self.old n) }
         ensures amount { length to.new ≡ length to.old + number }
         ensures given { GivesAway (states self.old) (list self.old) number to.old to.new };
 

@@ -1,7 +1,9 @@
 // The list H, and its inverse.
-ghost use Rattle.std.specs.Prelude.{◌≡◌, ◌+◌, ◌-◌, ◌*◌, ◌^◌, ◌<◌, ◌≤◌, ◌++◌, [], ◌∷◌, ℕ, filter, nat_lt, IfOk, length, slice_index};
+ghost use Rattle.std.specs.Prelude.{◌≡◌, ◌+◌, ◌-◌, ◌*◌, ◌^◌, ◌<◌, ◌≤◌, ◌++◌, [], ◌∷◌, ℕ, filter, nat_lt, IfOk, length};
+ghost use Rattle.std.specs.Prelude.{slice_index};
 ghost use Rattle.std.specs.Int.{bit_at};
-ghost use Rattle.symbol_interleave.specs.Carried.{IsInverse, IsPermutationBelow, address, bits, feedback, h as list_h, moved, next_word, wiring};
+ghost use Rattle.symbol_interleave.specs.Carried.{IsInverse, IsPermutationBelow, address, bits, feedback, h as list_h};
+ghost use Rattle.symbol_interleave.specs.Carried.{moved, next_word, wiring};
 
 use mode_set::{Carriers, Mode};
 use std::alloc::{AllocError, Global};

@@ -6,7 +6,8 @@ use Rattle.mode_set.specs.StreamTable.{has_stream, need, words_per_super_frame}
 use Rattle.mode_set.specs.declared.modes.Stream.{Stream}
 use Rattle.mode_set.specs.declared.modes.Stream.TheVariants.{Hp, Lp}
 use Rattle.mode_set.specs.declared.settings.Settings.{Settings}
-use Rattle.symbol_parameters.specs.Spans.{settings_in, exists_in, steps_of, steps_before, IsStepOf, words_in, words_before}
+use Rattle.symbol_parameters.specs.Spans.{settings_in, exists_in, steps_of, steps_before, IsStepOf, words_in}
+use Rattle.symbol_parameters.specs.Spans.{words_before}
 
 -- ---- settings
 
@@ -77,7 +78,8 @@ StepsAreOfAStream = (s : Settings) (σ : Stream) (j : ℕ) → 0 < need (setting
 
 -- if no settings change, all symbols have the same number of steps
 abbrev pub ConstantSteps : Type 0
-ConstantSteps = (s : Settings) (σ : Stream) (m : ℕ) → ((j : ℕ) → settings_in s j ≡ s) → steps_before s σ m ≡ m * need s σ
+ConstantSteps = (s : Settings) (σ : Stream) (m : ℕ) → ((j : ℕ) → settings_in s j ≡ s) → steps_before s σ m
+    ≡ m * need s σ
 
 -- ---- words
 
@@ -98,4 +100,5 @@ SpansHaveWholeWords = (s : Settings) (σ : Stream) (n : ℕ) → 1632 * words_be
 
 -- if no settings change, all super-frames have the same number of words
 abbrev pub ConstantWords : Type 0
-ConstantWords = (s : Settings) (σ : Stream) (n : ℕ) → ((j : ℕ) → settings_in s j ≡ s) → words_before s σ n ≡ n * words_per_super_frame s σ
+ConstantWords = (s : Settings) (σ : Stream) (n : ℕ) → ((j : ℕ) → settings_in s j ≡ s) → words_before s σ n
+    ≡ n * words_per_super_frame s σ

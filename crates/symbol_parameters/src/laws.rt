@@ -1,5 +1,9 @@
 // The laws of the spans of a transmission, as contracts of functions with empty bodies.
-ghost use Rattle.symbol_parameters.specs.Laws.{ModeStays, GuardStays, CellIdStays, StartStays, ParametersChange, HpExists, LpExists, StreamsExist, SettingsStay, NoSteps, StepsOfOneMore, StepsGrow, StepsHaveSymbols, OneSymbol, ConstantStreams, ConstantSteps, NoWords, WordsOfOneMore, WordsGrow, SpansHaveWholeWords, ConstantWords, StepsAreOfAStream};
+ghost use Rattle.symbol_parameters.specs.Laws.{ModeStays, GuardStays, CellIdStays, StartStays, ParametersChange};
+ghost use Rattle.symbol_parameters.specs.Laws.{HpExists, LpExists, StreamsExist, SettingsStay, NoSteps, StepsOfOneMore};
+ghost use Rattle.symbol_parameters.specs.Laws.{StepsGrow, StepsHaveSymbols, OneSymbol, ConstantStreams, ConstantSteps};
+ghost use Rattle.symbol_parameters.specs.Laws.{NoWords, WordsOfOneMore, WordsGrow, SpansHaveWholeWords, ConstantWords};
+ghost use Rattle.symbol_parameters.specs.Laws.{StepsAreOfAStream};
 
 use mode_set::super_frames_have_whole_words;
 

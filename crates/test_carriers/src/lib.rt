@@ -27,6 +27,8 @@ mod receiving;
 #[cfg(test)]
 mod sending;
 #[cfg(test)]
+mod sums;
+#[cfg(test)]
 mod symbol_cells;
 #[cfg(test)]
 mod symbols;
@@ -36,5 +38,3 @@ mod tps;
 mod tps_words;
 #[cfg(test)]
 mod tuning;
-#[cfg(test)]
-mod sums;

@@ -3,11 +3,11 @@ ghost use Rattle.std.specs.Prelude.{◌≡◌, ℕ, ◌<◌, ◌^◌, get_or};
 ghost use Rattle.mode_set.specs.StreamTable.{label_bits};
 ghost use Rattle.mode_set.specs.declared.modes.Mode.TheVariants.{M2k};
 
+use measure_sums::{plain, sum_symbol};
 use mode_set::{Hierarchy, Mode, Rate, Settings, Shape};
 use qam_map::{Cell, map};
 use std::process::Abort;
 use std::rt::HostRuntime;
-use measure_sums::{plain, sum_symbol};
 use test_tools::{flat, hierarchical, next_number};
 
 const CASES: [(Shape, Hierarchy); 9] = [

@@ -29,7 +29,11 @@ fn four_thousand_bytes(rt: HostRuntime) -> Result<(), Fail> {
 }
 
 // Word `number` of a stream, a byte at a time and whole.
-fn words(bytes: &mut Interleaver, whole: &mut WordInterleaver, number: usize) -> ([u8; 204], [u8; 204]) {
+fn words(
+    bytes: &mut Interleaver,
+    whole: &mut WordInterleaver,
+    number: usize,
+) -> ([u8; 204], [u8; 204]) {
     let mut one = [0; 204];
     for (place, byte) in one.iter_mut().enumerate() {
         *byte = coded(204 * number + place, 0);

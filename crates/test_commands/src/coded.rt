@@ -1,12 +1,12 @@
 // A run with one transport file, and the command `outer`. The expected bytes are those of an independent program.
-use test_runs::{
-    BASE, Conditions, File, Made, Ran, UNMADE, ample, checksum, run_files, text_bytes,
-};
 use station_core::Failing;
 use std::alloc::{AllocError, Global};
 use std::process::Abort;
 use std::test::Fail;
 use std::thread::Threads;
+use test_runs::{
+    BASE, Conditions, File, Made, Ran, UNMADE, ample, checksum, run_files, text_bytes,
+};
 
 /// The expected result: the status, the report, the length of the output, and its sum.
 pub(crate) type Found = (u8, &'static str, usize, u32);

@@ -1,9 +1,9 @@
 // The command `disperse`. The expected bytes are those of an independent program.
 use crate::coded::{Case, Part, first_wrong, parts_of};
 use dvbt_top::Limits;
-use test_runs::{BASE, File};
 use station_core::{Failing, InPort, OutPort};
 use std::test::Fail;
+use test_runs::{BASE, File};
 
 const FORM: &str = "disperse a out";
 

@@ -7,11 +7,11 @@ use mode_set::{Guard, Hierarchy, Mode, Mode2k, Plan, Rate, Settings, Shape, Star
 use modulator::{Modulator, Want};
 use pilots::CarrierKind::Payload;
 use pilots::kind;
-use test_runs::{BASE, Ran, ample, run_files, text_bytes};
 use std::alloc::{AllocError, Global};
 use std::process::Abort;
 use std::test::Fail;
 use std::thread::Threads;
+use test_runs::{BASE, Ran, ample, run_files, text_bytes};
 use ts_packet::Packet;
 
 /// The most by which a data cell of QPSK is moved on each axis.

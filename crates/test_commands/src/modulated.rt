@@ -1,12 +1,12 @@
 // The command `modulate`. The expected reports and sums are those of an independent program.
 use crate::cells::SUPER_FRAME;
-use test_runs::{
-    BASE, Conditions, File, LAYERED, Made, UNMADE, ample, checksum, run_files, text_bytes,
-};
 use station_core::{Failing, InPort, OutPort};
 use std::alloc::{AllocError, Global};
 use std::test::Fail;
 use std::thread::Threads;
+use test_runs::{
+    BASE, Conditions, File, LAYERED, Made, UNMADE, ample, checksum, run_files, text_bytes,
+};
 
 /// No packet.
 const NONE: File = File::Nulls(0, 0);

@@ -1,11 +1,11 @@
 // Transmissions with a plan. The expected reports, lengths and sums are those of an independent program.
+use std::alloc::{AllocError, Global};
+use std::test::Fail;
+use std::thread::Threads;
 use test_runs::{
     BASE, File, Found, Held, LAYERED, SUPER_FRAME, SYMBOL, ample, checksum, noisy, run_files,
     stands, text_bytes,
 };
-use std::alloc::{AllocError, Global};
-use std::test::Fail;
-use std::thread::Threads;
 
 /// LP appears with the second super-frame.
 const LP_COMES: &str =

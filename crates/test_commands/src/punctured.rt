@@ -1,11 +1,11 @@
 // The command `inner`. The expected bytes are those of an independent program.
 use crate::coded::{Case, FREE, Part, first_wrong, parts_of, run_on};
-use test_runs::{BASE, File, UNMADE};
 use station_core::{Failing, InPort};
 use std::alloc::{AllocError, Global};
 use std::process::Abort;
 use std::test::Fail;
 use std::thread::Threads;
+use test_runs::{BASE, File, UNMADE};
 
 const FORM: &str = "inner s a out";
 

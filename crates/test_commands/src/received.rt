@@ -4,15 +4,15 @@ ghost use Rattle.std.specs.Prelude.{◌≤◌};
 use crate::cells::{HEADER, SUPER_FRAME, SYMBOL, number_at, put_number, zero_cells};
 use mode_set::Mode;
 use pilots::tps_carriers;
-use test_runs::{
-    BASE, Conditions, File, LAYERED, Made, UNMADE, WHOLE_NULLS, ample, checksum, run_files,
-    text_bytes,
-};
 use station_core::{Failing, InPort, OutPort};
 use std::alloc::{AllocError, Global};
 use std::process::Abort;
 use std::test::Fail;
 use std::thread::Threads;
+use test_runs::{
+    BASE, Conditions, File, LAYERED, Made, UNMADE, WHOLE_NULLS, ample, checksum, run_files,
+    text_bytes,
+};
 
 const ONE: &str = "receive s a hp";
 

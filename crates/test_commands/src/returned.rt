@@ -4,11 +4,11 @@ use crate::cells::{HEADER, SYMBOL, number_at, put_number};
 use mode_set::Mode;
 use pilots::CarrierKind::Payload;
 use pilots::kind;
-use test_runs::{BASE, File, LAYERED, ample, checksum, run_files, text_bytes};
 use std::alloc::{AllocError, Global};
 use std::process::Abort;
 use std::test::Fail;
 use std::thread::Threads;
+use test_runs::{BASE, File, LAYERED, ample, checksum, run_files, text_bytes};
 
 const LAYERED_64: &str =
     "mode = \"2k\"\nconstellation = \"64qam\"\nhierarchy = \"1\"\nrate_hp = \"5/6\"\nrate_lp = \"2/3\"\nguard = \"1/4\"\ncell_id = 43981\n";

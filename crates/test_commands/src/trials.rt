@@ -1,10 +1,10 @@
 // The command `trial` on a station in memory. The expected lines are those of an independent program.
-use test_runs::{BASE, Conditions, LAYERED, UNMADE, ample, run_files, text_bytes};
 use station_core::{Failing, InPort, OutPort};
 use std::alloc::{AllocError, Global};
 use std::process::Abort;
 use std::test::Fail;
 use std::thread::Threads;
+use test_runs::{BASE, Conditions, LAYERED, UNMADE, ample, run_files, text_bytes};
 
 // Runs these arguments with these settings, and compares the status and the report. No output is created.
 fn expect<R: Abort + Threads + Sync>(

@@ -1,11 +1,11 @@
 // Files without a place, limits, refusals and faults. The expected reports, lengths and sums are those of an
 // independent program.
 use crate::align_running::{ALIGN, Found, HEADER, HEADER_SUM, aligned, heard, stands};
+use station_core::{Failing, InPort, OutPort};
+use std::test::Fail;
 use test_runs::{
     BASE, Conditions, LAYERED, SUPER_FRAME, SYMBOL, ample, null_cells, run_files, text_bytes,
 };
-use station_core::{Failing, InPort, OutPort};
-use std::test::Fail;
 
 /// QPSK at 1/2 in the 8K mode.
 const WIDE: &str = "mode = \"8k\"\nconstellation = \"qpsk\"\nrate_hp = \"1/2\"\nguard = \"1/32\"\n";

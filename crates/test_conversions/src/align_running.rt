@@ -1,8 +1,8 @@
 // Runs of `align`, and their results.
-use test_runs::{Conditions, Made, Ran, SYMBOL, UNMADE, checksum, run_files, text_bytes};
 use std::alloc::{AllocError, Global};
 use std::process::Abort;
 use std::thread::Threads;
+use test_runs::{Conditions, Made, Ran, SYMBOL, UNMADE, checksum, run_files, text_bytes};
 
 pub(crate) const ALIGN: &str = "align s a cells";
 

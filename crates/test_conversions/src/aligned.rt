@@ -1,12 +1,12 @@
 // Places found. The expected reports, lengths and sums are those of an independent program.
 use crate::align_running::{ALIGN, Found, HEADER, HEADER_SUM, aligned, heard, stands};
+use std::alloc::{AllocError, Global};
+use std::test::Fail;
+use std::thread::Threads;
 use test_runs::{
     BASE, Conditions, File, LAYERED, SUPER_FRAME, SYMBOL, ample, null_cells, run_files, text_bytes,
     wide_null_cells,
 };
-use std::alloc::{AllocError, Global};
-use std::test::Fail;
-use std::thread::Threads;
 
 /// The lines of the second of two super-frames, received from symbol 10 of the first one on.
 const SECOND: &str =

@@ -1,13 +1,13 @@
 // The command `equalise`. The expected reports, lengths and sums are those of an independent program.
-use test_runs::{
-    BASE, Conditions, LAYERED, Made, Ran, UNMADE, WHOLE_NULLS, ample, checksum, run_files,
-    text_bytes,
-};
 use station_core::{Failing, InPort, OutPort};
 use std::alloc::{AllocError, Global};
 use std::process::Abort;
 use std::test::Fail;
 use std::thread::Threads;
+use test_runs::{
+    BASE, Conditions, LAYERED, Made, Ran, UNMADE, WHOLE_NULLS, ample, checksum, run_files,
+    text_bytes,
+};
 
 /// QPSK at 1/2 in the 8K mode.
 const WIDE: &str = "mode = \"8k\"\nconstellation = \"qpsk\"\nrate_hp = \"1/2\"\nguard = \"1/32\"\n";

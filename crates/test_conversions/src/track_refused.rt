@@ -1,12 +1,12 @@
 // Refused runs of `track`, and their results: a prefix of an independent program's output.
 use crate::tracking_files::{HEADER, TRACK, WIDE_HEADER, random_cells, tracked};
+use station_core::{Failing, InPort, OutPort};
+use std::process::Abort;
+use std::test::Fail;
 use test_runs::{
     BASE, Conditions, LAYERED, Made, Ran, SYMBOL, UNMADE, WIDE_SYMBOL, ample, checksum, run_files,
     text_bytes,
 };
-use station_core::{Failing, InPort, OutPort};
-use std::process::Abort;
-use std::test::Fail;
 
 /// The capacity of the new file.
 const ROOM: u32 = 100_000;

@@ -2,14 +2,14 @@
 use crate::tracking_files::{
     HEADER, WIDE_HEADER, disturbed, has_digest, random_cells, still, sum_of, tracked, turned,
 };
-use test_runs::{
-    BASE, Conditions, SUPER_FRAME, SYMBOL, WHOLE_NULLS, WIDE_SYMBOL, ample, null_cells, run_files,
-    text_bytes,
-};
 use std::alloc::{AllocError, Global};
 use std::process::Abort;
 use std::test::Fail;
 use std::thread::Threads;
+use test_runs::{
+    BASE, Conditions, SUPER_FRAME, SYMBOL, WHOLE_NULLS, WIDE_SYMBOL, ample, null_cells, run_files,
+    text_bytes,
+};
 
 /// The capacity of the new file.
 const ROOM: u32 = 500_000;

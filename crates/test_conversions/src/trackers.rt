@@ -4,10 +4,10 @@ ghost use Rattle.std.specs.Prelude.{◌≡◌, ◌+◌, ◌<◌, ◌≤◌, fals
 use crate::tracking_files::{HEADER, random_cells};
 use frame_build::SymbolIn;
 use mode_set::{Mode, Mode2k, Settings};
-use test_runs::{BASE, SYMBOL, checksum};
 use std::alloc::{AllocError, Global};
 use std::process::Abort;
 use std::test::Fail;
+use test_runs::{BASE, SYMBOL, checksum};
 use tracker::Tracker;
 
 /// The sums of eight symbols of random cells, tracked.

@@ -3,11 +3,11 @@ use mode_set::Mode;
 use pilots::is_pilot;
 use rand_core::utils::NextWord;
 use rand_pcg::Lcg64Xsh32;
-use test_runs::{Conditions, Ran, SYMBOL, run_files, text_bytes};
 use sha2::{Digest, Sha256};
 use std::alloc::{AllocError, Global};
 use std::process::Abort;
 use std::thread::Threads;
+use test_runs::{Conditions, Ran, SYMBOL, run_files, text_bytes};
 
 pub(crate) const TRACK: &str = "track s a cells";
 

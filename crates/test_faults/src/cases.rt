@@ -1,9 +1,9 @@
 // A run without a fault, and the runs with one failed call.
-use test_runs::{Conditions, Ran, ample, checksum, run_files, text_bytes};
 use station_core::Failing;
 use std::alloc::{AllocError, Global};
 use std::process::Abort;
 use std::thread::Threads;
+use test_runs::{Conditions, Ran, ample, checksum, run_files, text_bytes};
 
 /// The capacity of each output: a super-frame of cells.
 const ROOM: u32 = 2_400_000;

@@ -1,12 +1,12 @@
 // Refusals in the work followed by a failed flush, as on a full disk: the write was given first, so the status is 6.
 // The outputs are those after the refusal, and the report has the lines before it.
 use crate::cells::symbols;
-use test_runs::{BASE, Conditions, File, LAYERED, Ran, ample, run_files, text_bytes};
 use station_core::{Failing, InPort};
 use std::alloc::{AllocError, Global};
 use std::process::Abort;
 use std::test::Fail;
 use std::thread::Threads;
+use test_runs::{BASE, Conditions, File, LAYERED, Ran, ample, run_files, text_bytes};
 
 /// The capacity of each output: a super-frame of cells.
 const ROOM: u32 = 2_400_000;

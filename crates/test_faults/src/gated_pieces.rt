@@ -7,11 +7,11 @@ use conv_code::CostPair;
 use inner_decoder::{Branch, StartState};
 use outer_chain::WordSlot;
 use rs204::{Outcome, encode};
-use test_runs::Meeting;
 use std::alloc::{AllocError, Global};
 use std::test::Fail;
 use std::thread::Threads;
 use survivor_ring::RingSurvivors;
+use test_runs::Meeting;
 use word_workers::{Gate, OpenGate, both, both_over, decode_all};
 
 /// A decoder of one stream.

@@ -1,8 +1,8 @@
 // The command `receive` with workers.
-use test_runs::{BASE, Meeting, Ran, WHOLE_NULLS, run_gated_files, text_bytes};
 use std::alloc::{AllocError, Global};
 use std::test::Fail;
 use std::thread::Threads;
+use test_runs::{BASE, Meeting, Ran, WHOLE_NULLS, run_gated_files, text_bytes};
 use word_workers::{Gate, OpenGate};
 
 /// Two streams of 3/4 in 64-QAM in the 8K mode.

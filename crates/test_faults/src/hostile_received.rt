@@ -1,10 +1,10 @@
 // Cells that no modulator sends, with random weights, through the command `receive`. The expected lengths and sums are
 // those of an independent program.
-use test_runs::{Conditions, ample, checksum, run_files, text_bytes};
 use std::alloc::{AllocError, Global};
 use std::process::Abort;
 use std::test::Fail;
 use std::thread::Threads;
+use test_runs::{Conditions, ample, checksum, run_files, text_bytes};
 use test_tools::next_number;
 
 /// The cells of 24 symbols of the 2K mode.

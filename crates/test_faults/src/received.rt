@@ -3,13 +3,13 @@
 // numbers of packets after the symbols are those of an independent program.
 use crate::cases::{Stands, Work, each_fails, whole};
 use crate::cells::symbols;
-use test_runs::{BASE, File, LAYERED, Ran, ample, checksum, run_files, text_bytes};
 use station_core::Failing::{Attach, Close, Create, Read, Write};
 use station_core::{Failing, InPort, OutPort};
 use std::alloc::{AllocError, Global};
 use std::process::Abort;
 use std::test::Fail;
 use std::thread::Threads;
+use test_runs::{BASE, File, LAYERED, Ran, ample, checksum, run_files, text_bytes};
 
 const ONE_LINES: &str =
     "symbols 68 tail 3\ntps read 1 bad 0\nhp words 52 clean 52 corrected 0 bad 0 unphased 0 unmerged 0\n";

@@ -2,11 +2,11 @@
 // symbols, and the first write is that of the header.
 use crate::cases::{Stands, Work, each_fails, whole};
 use crate::cells::{and_half, symbols};
-use test_runs::{BASE, File, LAYERED};
 use station_core::Failing::{Attach, Close, Create, Read, Write};
 use station_core::{Failing, InPort, OutPort};
 use std::alloc::{AllocError, Global};
 use std::test::Fail;
+use test_runs::{BASE, File, LAYERED};
 
 /// `BASE` with a limit of 32 symbols.
 const LIMITED: &str =

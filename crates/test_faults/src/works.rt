@@ -1,11 +1,11 @@
 // The commands `disperse`, `outer` and `inner` on 33 packets. A read returns one packet, and a write takes the whole
 // bytes for one packet.
 use crate::cases::{Stands, Work, each_fails, whole};
-use test_runs::File;
 use station_core::Failing::{Attach, Close, Create, Read, Write};
 use station_core::{Failing, InPort, OutPort};
 use std::alloc::{AllocError, Global};
 use std::test::Fail;
+use test_runs::File;
 
 /// `BASE` at 5/6, where no packet ends with a whole byte.
 const FIVE_OF_SIX: &str =

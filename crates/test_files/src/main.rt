@@ -8,11 +8,11 @@
 #![tactic(auto)]
 
 use dvbt_top::run;
-use test_runs::{checksum, noisy};
 use station_files::{Buffers, FileStation};
 use std::rt::Files;
 use std::thread::Threads;
 use std::{fs, io};
+use test_runs::{checksum, noisy};
 
 /// A command, and the files that it writes.
 type Run = (&'static str, &'static [&'static str]);

@@ -2,7 +2,9 @@
 ghost use Rattle.std.specs.Prelude.{◌≡◌};
 ghost use Rattle.mode_set.specs.declared.modes.Mode.{Mode};
 
-use crate::sending::{SYMBOL, WIDE_SYMBOL, null_symbols, settings, wide_null_symbols, wide_settings};
+use crate::sending::{
+    SYMBOL, WIDE_SYMBOL, null_symbols, settings, wide_null_symbols, wide_settings,
+};
 use crate::{Cut, Given, Received, Reception};
 use mode_set::{Carriers, Mode2k, Mode8k, Settings, Start};
 use std::alloc::{AllocError, Global};
@@ -28,7 +30,10 @@ impl Counting {
     }
 
     fn counts(&self) -> (u64, u64) {
-        (self.outer.load(Ordering::SeqCst), self.inner.load(Ordering::SeqCst))
+        (
+            self.outer.load(Ordering::SeqCst),
+            self.inner.load(Ordering::SeqCst),
+        )
     }
 }
 
@@ -78,8 +83,14 @@ fn wide_symbols_cut_anywhere(rt: HostRuntime) -> Result<(), Fail> {
     let bytes = wide_null_symbols(&rt, alloc, 5)?;
     let settings = wide_settings();
     let whole = Received::of::<Mode8k, _>(&rt, alloc, &settings, &bytes, Cut::Size(WIDE_SYMBOL))?;
-    assert_eq!(rt; (bytes.len(), whole.taken, whole.given.len()), (170_425, 170_425, 6));
-    assert_eq!(rt; (packets(&whole).1, whole.counts.hp.clean, whole.quiet), (7, 7, true));
+    assert_eq!(rt;
+        (bytes.len(), whole.taken, whole.given.len()),
+        (170_425, 170_425, 6)
+    );
+    assert_eq!(rt;
+        (packets(&whole).1, whole.counts.hp.clean, whole.quiet),
+        (7, 7, true)
+    );
     for size in [1, 3, 997, 34_084, 34_086, 100_000] {
         let other = Received::of::<Mode8k, _>(&rt, alloc, &settings, &bytes, Cut::Size(size))?;
         assert!(rt; other == whole, "pieces of {size} bytes");
@@ -109,7 +120,8 @@ fn feed_all<M: Carriers, R: Threads + Sync, G: Gate>(
     Ok(sum)
 }
 
-/// What came through a gate: the null packets before the end and in all, and how often the gate was entered for an outer
+/// What came through a gate: the null packets before the end and in all, and how often the gate was entered for an
+/// outer
 /// word and for an inner decoder.
 type Gated = (usize, usize, u64, u64);
 
@@ -132,8 +144,10 @@ fn gated<M: Carriers, R: Threads + Sync>(
     Ok((before, before.saturating_add(last), outer, inner))
 }
 
-// Whatever the workers and the pieces are, the gate is entered once for each outer word before the end, and by no inner decoder,
-// since there is one stream. A frame of 68 symbols of 1,512 bits has 63 words, of which eleven are the start-up; the last one
+// Whatever the workers and the pieces are, the gate is entered once for each outer word before the end, and by no inner
+// decoder,
+// since there is one stream. A frame of 68 symbols of 1,512 bits has 63 words, of which eleven are the start-up; the
+// last one
 // ends with it.
 #[test]
 fn words_pass_the_gate(rt: HostRuntime) -> Result<(), Fail> {

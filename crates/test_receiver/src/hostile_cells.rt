@@ -1,8 +1,8 @@
 // Cells that no modulator sends, fed in three ways. The expected reports and counts are those of an independent
 // program.
+use crate::{Cut, Received};
 use load_gen::Load;
 use mode_set::{Mode, Mode2k, Settings};
-use crate::{Cut, Received};
 use rx_report::StreamCounts;
 use std::alloc::{AllocError, Global};
 use std::process::Abort;

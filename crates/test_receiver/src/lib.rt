@@ -4,15 +4,16 @@
 //! The crate has tests alone. [`Received`] feeds a receiver, a [`Cut`] cuts bytes into pieces.
 #![tactic(auto)]
 
-mod cut;
 #[cfg(test)]
 mod bursts;
+mod cut;
 #[cfg(test)]
 mod cut_symbols;
 #[cfg(test)]
 mod draws;
 #[cfg(test)]
 mod hostile_cells;
+mod receiving;
 #[cfg(test)]
 mod reports;
 #[cfg(test)]
@@ -27,7 +28,6 @@ mod tests;
 mod trial_plans;
 #[cfg(test)]
 mod trials;
-mod receiving;
 
 pub use cut::Cut;
 pub use receiving::{Given, Received, Reception};

@@ -70,7 +70,10 @@ fn rescue_of_symbols_cut_anywhere(rt: HostRuntime) -> Result<(), Fail> {
     }
     for size in [1, 3, 997, SYMBOL - 1, SYMBOL, SYMBOL + 1, 20_000] {
         let given = rescued(&rt, alloc, &bytes, size)?;
-        assert!(rt; given.as_slice() == sent.as_slice(), "pieces of {size} bytes");
+        assert!(rt;
+            given.as_slice() == sent.as_slice(),
+            "pieces of {size} bytes"
+        );
     }
     Ok(())
 }

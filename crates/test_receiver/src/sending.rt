@@ -1,7 +1,9 @@
 // The symbols of null packets.
 ghost use Rattle.std.specs.Prelude.{◌≡◌};
 
-use mode_set::{Carriers, Guard, Hierarchy, Mode, Mode2k, Mode8k, Plan, Rate, Settings, Shape, Start};
+use mode_set::{
+    Carriers, Guard, Hierarchy, Mode, Mode2k, Mode8k, Plan, Rate, Settings, Shape, Start,
+};
 use modulator::{Modulator, Want};
 use std::alloc::{AllocError, Global};
 use std::process::Abort;

@@ -1,7 +1,7 @@
 // Receptions with known outcomes.
 use crate::sending::{SYMBOL, null_symbols, settings};
-use mode_set::{Mode2k, Start, Stream};
 use crate::{Cut, Given, Received, Reception};
+use mode_set::{Mode2k, Start, Stream};
 use rx_report::{Counts, Event, StreamCounts};
 use std::alloc::{AllocError, Global};
 use std::process::Abort;

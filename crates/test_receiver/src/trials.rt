@@ -6,8 +6,7 @@ use std::alloc::{AllocError, Global};
 use std::process::Abort;
 use std::rt::HostRuntime;
 use std::thread::Threads;
-use trial::{StreamReturn, TrialCounts};
-use trial::Trial;
+use trial::{StreamReturn, Trial, TrialCounts};
 use word_workers::OpenGate;
 
 // The counts, if the trial has super-frames.

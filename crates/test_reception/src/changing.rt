@@ -1,12 +1,12 @@
 // `tune` across super-frames with changing parameters. The expected reports, lengths and sums are those of an
 // independent program.
+use std::alloc::{AllocError, Global};
+use std::test::Fail;
+use std::thread::Threads;
 use test_runs::{
     BASE, EMPTY, File, Found, Held, LAYERED, SUPER_FRAME, SYMBOL, ample, run_files, stands,
     text_bytes,
 };
-use std::alloc::{AllocError, Global};
-use std::test::Fail;
-use std::thread::Threads;
 
 // A transmission: its settings, its plan, and its packets of HP and of LP.
 type Sent<'a> = (&'a str, &'a str, (u32, Option<u32>));

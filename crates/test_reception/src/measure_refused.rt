@@ -1,9 +1,9 @@
 // Invalid command lines, rejected settings and cells, and faults. The expected reports are those of an independent
 // program.
 use crate::measure_running::{MEASURE, first, measured, sent, stands};
-use test_runs::{BASE, Conditions, LAYERED, ample, run_files, text_bytes};
 use station_core::{Failing, InPort, OutPort};
 use std::test::Fail;
+use test_runs::{BASE, Conditions, LAYERED, ample, run_files, text_bytes};
 
 /// QPSK at 1/2 in the 8K mode.
 const WIDE: &str = "mode = \"8k\"\nconstellation = \"qpsk\"\nrate_hp = \"1/2\"\nguard = \"1/32\"\n";

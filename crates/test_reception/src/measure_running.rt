@@ -1,8 +1,8 @@
 // Runs of `measure`, and their results.
-use test_runs::{Conditions, File, Ran, SUPER_FRAME, SYMBOL, UNMADE, ample, run_files, text_bytes};
 use std::alloc::{AllocError, Global};
 use std::process::Abort;
 use std::thread::Threads;
+use test_runs::{Conditions, File, Ran, SUPER_FRAME, SYMBOL, UNMADE, ample, run_files, text_bytes};
 
 pub(crate) const MEASURE: &str = "measure s a";
 

@@ -3,8 +3,8 @@ use crate::measure_running::{first, negate, prints, sent};
 use mode_set::Mode;
 use pilots::CarrierKind::Payload;
 use pilots::kind;
-use test_runs::{BASE, LAYERED, SYMBOL, WIDE_SYMBOL, null_cells, wide_null_cells};
 use std::test::Fail;
+use test_runs::{BASE, LAYERED, SYMBOL, WIDE_SYMBOL, null_cells, wide_null_cells};
 
 const NULLS: &str =
     "superframe 0 symbols 272 cells 411264 muted 0 power 110393313004800 error 0 tps read 4 bad 0\nhp bits 822528 wrong 0 words 241 clean 241 corrected 0 bad 0 unphased 0 unmerged 0 repaired 0\nsymbols 272 tail 0\ntps read 4 bad 0\nhp words 241 clean 241 corrected 0 bad 0 unphased 0 unmerged 0\n";

@@ -2,11 +2,11 @@
 use measure_report::Line;
 use measurer::{MeasureOut, Measurer};
 use mode_set::{Carriers, Mode, Mode2k, Mode8k, Rate, Settings, Shape};
-use test_runs::{BASE, SYMBOL, WIDE_SYMBOL, null_cells, wide_null_cells};
 use std::alloc::{AllocError, Global};
 use std::process::Abort;
 use std::test::Fail;
 use std::thread::Threads;
+use test_runs::{BASE, SYMBOL, WIDE_SYMBOL, null_cells, wide_null_cells};
 use test_tools::flat;
 use word_workers::OpenGate;
 

@@ -1,7 +1,7 @@
 // Transmissions with changing parameters. The expected reports are those of an independent program.
 use crate::measure_running::{first, measured, prints, sent, stands};
-use test_runs::{BASE, LAYERED, ample};
 use std::test::Fail;
+use test_runs::{BASE, LAYERED, ample};
 
 /// LP appears with the second super-frame.
 const LP_COMES: &str =

@@ -1,15 +1,15 @@
 // The command `rescue`. The expected reports, lengths and sums are those of an independent program.
 ghost use Rattle.std.specs.Prelude.{◌≤◌};
 
-use test_runs::{
-    BASE, Conditions, EMPTY, Found, Held, LAYERED, SUPER_FRAME, SYMBOL, WIDE_SYMBOL, ample, noisy,
-    null_cells, run_files, stands, text_bytes, wide_null_cells,
-};
 use station_core::{Failing, InPort, OutPort};
 use std::alloc::{AllocError, Global};
 use std::process::Abort;
 use std::test::Fail;
 use std::thread::Threads;
+use test_runs::{
+    BASE, Conditions, EMPTY, Found, Held, LAYERED, SUPER_FRAME, SYMBOL, WIDE_SYMBOL, ample, noisy,
+    null_cells, run_files, stands, text_bytes, wide_null_cells,
+};
 
 /// QPSK at 7/8.
 const QPSK: &str = "mode = \"2k\"\nconstellation = \"qpsk\"\nrate_hp = \"7/8\"\nguard = \"1/32\"\n";

@@ -1,15 +1,15 @@
 // The command `tune`. The expected reports, lengths and sums are those of an independent program.
 ghost use Rattle.std.specs.Prelude.{◌≤◌};
 
-use test_runs::{
-    BASE, Conditions, EMPTY, File, Found, Held, LAYERED, Ran, SUPER_FRAME, SYMBOL, WIDE_SYMBOL,
-    ample, noisy, null_cells, run_files, stands, text_bytes, wide_null_cells,
-};
 use station_core::{Failing, InPort, OutPort};
 use std::alloc::{AllocError, Global};
 use std::process::Abort;
 use std::test::Fail;
 use std::thread::Threads;
+use test_runs::{
+    BASE, Conditions, EMPTY, File, Found, Held, LAYERED, Ran, SUPER_FRAME, SYMBOL, WIDE_SYMBOL,
+    ample, noisy, null_cells, run_files, stands, text_bytes, wide_null_cells,
+};
 
 /// The number of symbols taken from the super-frame that follows.
 const FOLLOWING: usize = 24;

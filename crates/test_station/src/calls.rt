@@ -67,8 +67,10 @@ fn done(outcome: Result<(), Failed>) -> Answer {
 }
 
 fn create<'a, S: Station<'a>>(ports: &mut Ports, station: &mut S, name: &'a str) -> Answer
-    requires { AreTrue ports.old.bytes_asked ports.old.bytes_open ports.old.hp_asked ports.old.hp_attached (S.meaning station.old) }
-    ensures { AreTrue ports.new.bytes_asked ports.new.bytes_open ports.new.hp_asked ports.new.hp_attached (S.meaning station.new) }
+    requires { AreTrue ports.old.bytes_asked ports.old.bytes_open ports.old.hp_asked ports.old.hp_attached
+        (S.meaning station.old) }
+    ensures { AreTrue ports.new.bytes_asked ports.new.bytes_open ports.new.hp_asked ports.new.hp_attached
+        (S.meaning station.new) }
 {
     if ports.bytes_asked {
         return Answer::Barred;
@@ -80,8 +82,10 @@ fn create<'a, S: Station<'a>>(ports: &mut Ports, station: &mut S, name: &'a str)
 }
 
 fn write<'a, S: Station<'a>>(ports: &mut Ports, station: &mut S, bytes: &[u8]) -> Answer
-    requires { AreTrue ports.old.bytes_asked ports.old.bytes_open ports.old.hp_asked ports.old.hp_attached (S.meaning station.old) }
-    ensures { AreTrue ports.new.bytes_asked ports.new.bytes_open ports.new.hp_asked ports.new.hp_attached (S.meaning station.new) }
+    requires { AreTrue ports.old.bytes_asked ports.old.bytes_open ports.old.hp_asked ports.old.hp_attached
+        (S.meaning station.old) }
+    ensures { AreTrue ports.new.bytes_asked ports.new.bytes_open ports.new.hp_asked ports.new.hp_attached
+        (S.meaning station.new) }
 {
     if !ports.bytes_open || bytes.is_empty() {
         return Answer::Barred;
@@ -90,15 +94,19 @@ fn write<'a, S: Station<'a>>(ports: &mut Ports, station: &mut S, bytes: &[u8]) -
 }
 
 fn flush<'a, S: Station<'a>>(_ports: &Ports, station: &mut S) -> Answer
-    requires { AreTrue _ports.now.bytes_asked _ports.now.bytes_open _ports.now.hp_asked _ports.now.hp_attached (S.meaning station.old) }
-    ensures { AreTrue _ports.now.bytes_asked _ports.now.bytes_open _ports.now.hp_asked _ports.now.hp_attached (S.meaning station.new) }
+    requires { AreTrue _ports.now.bytes_asked _ports.now.bytes_open _ports.now.hp_asked _ports.now.hp_attached
+        (S.meaning station.old) }
+    ensures { AreTrue _ports.now.bytes_asked _ports.now.bytes_open _ports.now.hp_asked _ports.now.hp_attached
+        (S.meaning station.new) }
 {
     done(station.flush())
 }
 
 fn close<'a, S: Station<'a>>(ports: &mut Ports, station: &mut S) -> Answer
-    requires { AreTrue ports.old.bytes_asked ports.old.bytes_open ports.old.hp_asked ports.old.hp_attached (S.meaning station.old) }
-    ensures { AreTrue ports.new.bytes_asked ports.new.bytes_open ports.new.hp_asked ports.new.hp_attached (S.meaning station.new) }
+    requires { AreTrue ports.old.bytes_asked ports.old.bytes_open ports.old.hp_asked ports.old.hp_attached
+        (S.meaning station.old) }
+    ensures { AreTrue ports.new.bytes_asked ports.new.bytes_open ports.new.hp_asked ports.new.hp_attached
+        (S.meaning station.new) }
 {
     if !ports.bytes_open {
         return Answer::Barred;
@@ -108,8 +116,10 @@ fn close<'a, S: Station<'a>>(ports: &mut Ports, station: &mut S) -> Answer
 }
 
 fn attach<'a, S: Station<'a>>(ports: &mut Ports, station: &mut S, name: &'a str) -> Answer
-    requires { AreTrue ports.old.bytes_asked ports.old.bytes_open ports.old.hp_asked ports.old.hp_attached (S.meaning station.old) }
-    ensures { AreTrue ports.new.bytes_asked ports.new.bytes_open ports.new.hp_asked ports.new.hp_attached (S.meaning station.new) }
+    requires { AreTrue ports.old.bytes_asked ports.old.bytes_open ports.old.hp_asked ports.old.hp_attached
+        (S.meaning station.old) }
+    ensures { AreTrue ports.new.bytes_asked ports.new.bytes_open ports.new.hp_asked ports.new.hp_attached
+        (S.meaning station.new) }
 {
     if ports.hp_asked {
         return Answer::Barred;
@@ -121,8 +131,10 @@ fn attach<'a, S: Station<'a>>(ports: &mut Ports, station: &mut S, name: &'a str)
 }
 
 fn read<'a, S: Station<'a>>(ports: &mut Ports, station: &mut S, most: usize) -> Answer
-    requires { AreTrue ports.old.bytes_asked ports.old.bytes_open ports.old.hp_asked ports.old.hp_attached (S.meaning station.old) }
-    ensures { AreTrue ports.new.bytes_asked ports.new.bytes_open ports.new.hp_asked ports.new.hp_attached (S.meaning station.new) }
+    requires { AreTrue ports.old.bytes_asked ports.old.bytes_open ports.old.hp_asked ports.old.hp_attached
+        (S.meaning station.old) }
+    ensures { AreTrue ports.new.bytes_asked ports.new.bytes_open ports.new.hp_asked ports.new.hp_attached
+        (S.meaning station.new) }
 {
     if !ports.hp_attached {
         return Answer::Barred;
@@ -135,8 +147,10 @@ fn read<'a, S: Station<'a>>(ports: &mut Ports, station: &mut S, most: usize) -> 
 }
 
 fn read_all<'a, S: Station<'a>>(ports: &mut Ports, station: &mut S) -> Answer
-    requires { AreTrue ports.old.bytes_asked ports.old.bytes_open ports.old.hp_asked ports.old.hp_attached (S.meaning station.old) }
-    ensures { AreTrue ports.new.bytes_asked ports.new.bytes_open ports.new.hp_asked ports.new.hp_attached (S.meaning station.new) }
+    requires { AreTrue ports.old.bytes_asked ports.old.bytes_open ports.old.hp_asked ports.old.hp_attached
+        (S.meaning station.old) }
+    ensures { AreTrue ports.new.bytes_asked ports.new.bytes_open ports.new.hp_asked ports.new.hp_attached
+        (S.meaning station.new) }
 {
     if !ports.hp_attached {
         return Answer::Barred;
@@ -170,8 +184,10 @@ fn make_call<'a, S: Station<'a>>(
     watched: &Watched<'_>,
     call: Call<'a>,
 ) -> Answer
-    requires { AreTrue ports.old.bytes_asked ports.old.bytes_open ports.old.hp_asked ports.old.hp_attached (S.meaning station.old) }
-    ensures { AreTrue ports.new.bytes_asked ports.new.bytes_open ports.new.hp_asked ports.new.hp_attached (S.meaning station.new) }
+    requires { AreTrue ports.old.bytes_asked ports.old.bytes_open ports.old.hp_asked ports.old.hp_attached
+        (S.meaning station.old) }
+    ensures { AreTrue ports.new.bytes_asked ports.new.bytes_open ports.new.hp_asked ports.new.hp_attached
+        (S.meaning station.new) }
 {
     match call {
         Call::Create(name) => create(ports, station, name),

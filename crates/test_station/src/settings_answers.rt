@@ -1,7 +1,7 @@
 // Documents with their answers.
-use crate::settings_documents::{BASE, DOCUMENTS};
 use crate::examples::EXAMPLES;
 use crate::plan_documents::PLANS;
+use crate::settings_documents::{BASE, DOCUMENTS};
 use mode_set::{Entry, Key, Settings, SettingsError};
 use std::alloc::{AllocError, Global};
 use std::process::Abort;

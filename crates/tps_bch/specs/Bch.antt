@@ -1,5 +1,6 @@
 -- The BCH(67,53) code of the TPS bits, shortened from (127,113) (EN 300 744, 4.6.2.11).
-use Rattle.std.specs.Prelude.{◌≡◌, ◌≢◌, ℕ, zero, suc, ◌+◌, ◌<◌, ◌≤◌, ◌&&◌, Bool, false, if◌then◌else◌, List, [], ◌∷◌, ◌++◌, map, drop, length, replicate, codes}
+use Rattle.std.specs.Prelude.{◌≡◌, ◌≢◌, ℕ, zero, suc, ◌+◌, ◌<◌, ◌≤◌, ◌&&◌, Bool, false, if◌then◌else◌, List, [], ◌∷◌}
+use Rattle.std.specs.Prelude.{◌++◌, map, drop, length, replicate, codes}
 use Rattle.spec_words.specs.Bits.{xor, digits}
 
 -- x^14 + x^9 + x^8 + x^6 + x^5 + x^4 + x^2 + x + 1, highest coefficient first

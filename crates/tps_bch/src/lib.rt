@@ -45,7 +45,8 @@ fn flip(word: &mut [bool; 67], place: usize)
 pub fn correct(word: &mut [bool; 67]) -> TpsOutcome
     ensures read { (n : ℕ) → result ≡ TpsOutcome.Read n → IsCorrected word.old word.new n }
     ensures unreadable { result ≡ TpsOutcome.Unreadable → (word.new ≡ word.old) × IsFar word.old }
-    ensures nearest { (w : List Bool) → IsTpsWord w → bit_distance word.old w ≤ 2 → (result ≡ TpsOutcome.Read (bit_distance word.old w)) × (word.new ≡ w) }
+    ensures nearest { (w : List Bool) → IsTpsWord w → bit_distance word.old w ≤ 2
+        → (result ≡ TpsOutcome.Read (bit_distance word.old w)) × (word.new ≡ w) }
 {
     let syndrome = syndrome(word);
     if syndrome == 0 {

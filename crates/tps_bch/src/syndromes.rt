@@ -48,7 +48,8 @@ pub(crate) fn place_of(syndrome: u16) -> Option<usize>
 
 /// The positions of two errors with this syndrome.
 pub(crate) fn places_of(syndrome: u16) -> Option<(usize, usize)>
-    ensures found { IfSome result (λ two. (two.0 < 67) × (two.1 < 67) × (bit_xor (syndrome_at two.0) (syndrome_at two.1) ≡ syndrome)) }
+    ensures found { IfSome result (λ two. (two.0 < 67) × (two.1 < 67)
+        × (bit_xor (syndrome_at two.0) (syndrome_at two.1) ≡ syndrome)) }
     ensures none { IfNone result ((i j : ℕ) → i < 67 → j < 67 → bit_xor (syndrome_at i) (syndrome_at j) ≢ syndrome) }
 {
     for (i, rest) in table().iter().enumerate() {

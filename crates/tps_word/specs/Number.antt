@@ -23,13 +23,16 @@ abbrev pub shape_numbered : ℕ → Option Shape
 shape_numbered n = if n == 0 then Some Qpsk else (if n == 1 then Some Qam16 else (if n == 2 then Some Qam64 else None))
 
 abbrev pub hierarchy_numbered : ℕ → Option Hierarchy
-hierarchy_numbered n = if n == 0 then Some Flat else (if n == 1 then Some Alpha1 else (if n == 2 then Some Alpha2 else (if n == 3 then Some Alpha4 else None)))
+hierarchy_numbered n = if n == 0 then Some Flat else (if n == 1 then Some Alpha1 else
+    (if n == 2 then Some Alpha2 else (if n == 3 then Some Alpha4 else None)))
 
 abbrev pub rate_numbered : ℕ → Option Rate
-rate_numbered n = if n == 0 then Some R1of2 else (if n == 1 then Some R2of3 else (if n == 2 then Some R3of4 else (if n == 3 then Some R5of6 else (if n == 4 then Some R7of8 else None))))
+rate_numbered n = if n == 0 then Some R1of2 else (if n == 1 then Some R2of3 else
+    (if n == 2 then Some R3of4 else (if n == 3 then Some R5of6 else (if n == 4 then Some R7of8 else None))))
 
 abbrev pub guard_numbered : ℕ → Option Guard
-guard_numbered n = if n == 0 then Some G1of32 else (if n == 1 then Some G1of16 else (if n == 2 then Some G1of8 else (if n == 3 then Some G1of4 else None)))
+guard_numbered n = if n == 0 then Some G1of32 else (if n == 1 then Some G1of16 else
+    (if n == 2 then Some G1of8 else (if n == 3 then Some G1of4 else None)))
 
 abbrev pub mode_numbered : ℕ → Option Mode
 mode_numbered n = if n == 0 then Some M2k else (if n == 1 then Some M8k else None)

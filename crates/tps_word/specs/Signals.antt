@@ -13,4 +13,5 @@ pub record Signals (bits : List Bool) (fields : TpsWord) : Type 0 where
 
 -- 67 bits signal at most one set of fields
 abbrev pub OneSignalled : Type 0
-OneSignalled = (bits : List Bool) (fields other : TpsWord) → length bits ≡ 67 → Signals bits fields → Signals bits other → fields ≡ other
+OneSignalled = (bits : List Bool) (fields other : TpsWord) → length bits ≡ 67 → Signals bits fields → Signals bits other
+    → fields ≡ other

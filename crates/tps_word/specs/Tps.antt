@@ -1,5 +1,6 @@
 -- The TPS bits of a frame (EN 300 744, 4.6.2). The strings of digits are the standard's.
-use Rattle.std.specs.Prelude.{◌≡◌, ℕ, ◌-◌, ◌/◌, ◌%◌, ◌≤◌, ◌<◌, IsTrue, IsFalse, ◌==◌, Bool, if◌then◌else◌, List, ◌++◌, codes, unwrap_or, Option, Some, None, is_some}
+use Rattle.std.specs.Prelude.{◌≡◌, ℕ, ◌-◌, ◌/◌, ◌%◌, ◌≤◌, ◌<◌, IsTrue, IsFalse, ◌==◌, Bool, if◌then◌else◌, List, ◌++◌}
+use Rattle.std.specs.Prelude.{codes, unwrap_or, Option, Some, None, is_some}
 use Rattle.spec_words.specs.Bits.{digits, spelled}
 use Rattle.tps_bch.specs.Bch.{tps_parity}
 use Rattle.mode_set.specs.Kept.{is_flat, is_qpsk}
@@ -83,7 +84,19 @@ cell_byte (Some id) frame = if frame % 2 == 1 then id / 256 else id % 256
 
 -- the fields signalled by a frame
 abbrev pub signalled : Settings → ℕ → TpsWord
-signalled s frame = record { frame = frame; with_cell = is_some s.cell_id; shape = s.shape; hierarchy = s.hierarchy; rate_hp = s.rate_hp; rate_lp = unwrap_or s.rate_lp R1of2; guard = s.guard; mode = s.mode; cell_byte = cell_byte s.cell_id frame }
+signalled s frame = record {
+  frame = frame;
+  with_cell = is_some s.cell_id;
+  shape = s.shape;
+  hierarchy
+      = s.hierarchy;
+  rate_hp = s.rate_hp;
+  rate_lp = unwrap_or s.rate_lp R1of2;
+  guard = s.guard;
+  mode = s.mode;
+  cell_byte
+      = cell_byte s.cell_id frame;
+}
 
 -- valid fields
 pub record IsValid (t : TpsWord) : Type 0 where

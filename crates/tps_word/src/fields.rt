@@ -1,8 +1,10 @@
 // The fields of a TPS word as digits, and back (EN 300 744, 4.6.2).
 ghost use Rattle.std.specs.Prelude.{◌≡◌, ◌+◌, ◌^◌, ◌<◌, ◌≤◌, ◌++◌, length, take};
 ghost use Rattle.spec_words.specs.Bits.{digits, spelled};
-ghost use Rattle.tps_word.specs.Tps.{sync_word, length_bits, shape_bits, hierarchy_bits, rate_bits, guard_bits, mode_bits};
-ghost use Rattle.tps_word.specs.Number.{number_of, shape_numbered, hierarchy_numbered, rate_numbered, guard_numbered, mode_numbered};
+ghost use Rattle.tps_word.specs.Tps.{sync_word, length_bits, shape_bits, hierarchy_bits, rate_bits, guard_bits};
+ghost use Rattle.tps_word.specs.Tps.{mode_bits};
+ghost use Rattle.tps_word.specs.Number.{number_of, shape_numbered, hierarchy_numbered, rate_numbered, guard_numbered};
+ghost use Rattle.tps_word.specs.Number.{mode_numbered};
 
 use mode_set::{Guard, Hierarchy, Mode, Rate, Shape};
 

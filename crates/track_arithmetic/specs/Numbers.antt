@@ -1,5 +1,6 @@
 -- Complex integers.
-use Rattle.std.specs.Prelude.{ℕ, zero, suc, ◌+◌, ◌-◌, ◌*◌, ◌%◌, ◌^◌, ◌≤◌, ◌==◌, nat_le, if◌then◌else◌, List, [], ◌∷◌, get_or, ℤ, pos, neg_ℤ, nat_abs, ◌+ℤ◌, ◌-ℤ◌, ◌*ℤ◌}
+use Rattle.std.specs.Prelude.{ℕ, zero, suc, ◌+◌, ◌-◌, ◌*◌, ◌%◌, ◌^◌, ◌≤◌, ◌==◌, nat_le, if◌then◌else◌, List, [], ◌∷◌}
+use Rattle.std.specs.Prelude.{get_or, ℤ, pos, neg_ℤ, nat_abs, ◌+ℤ◌, ◌-ℤ◌, ◌*ℤ◌}
 use Rattle.std.specs.Int.{int_div_euclid, saturate_signed, w16}
 use Rattle.track_arithmetic.specs.declared.complex.Complex.{Complex}
 
@@ -81,7 +82,8 @@ direction x = direction_by (root (power x)) x
 
 -- 2^14 cos (2 pi i / 64) for i = 0 to 16, rounded
 abbrev pub first_cosines : List ℤ
-first_cosines = pos 16384 ∷ pos 16305 ∷ pos 16069 ∷ pos 15679 ∷ pos 15137 ∷ pos 14449 ∷ pos 13623 ∷ pos 12665 ∷ pos 11585 ∷ pos 10394 ∷ pos 9102 ∷ pos 7723 ∷ pos 6270 ∷ pos 4756 ∷ pos 3196 ∷ pos 1606 ∷ pos 0 ∷ []
+first_cosines = pos 16384 ∷ pos 16305 ∷ pos 16069 ∷ pos 15679 ∷ pos 15137 ∷ pos 14449 ∷ pos 13623 ∷ pos 12665
+    ∷ pos 11585 ∷ pos 10394 ∷ pos 9102 ∷ pos 7723 ∷ pos 6270 ∷ pos 4756 ∷ pos 3196 ∷ pos 1606 ∷ pos 0 ∷ []
 
 -- the same for i below 64, by symmetry of the cosine
 abbrev pub cosine : ℕ → ℤ

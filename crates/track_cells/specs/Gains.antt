@@ -23,7 +23,8 @@ AreWithin n gains = (k : ℕ) → k < length gains → IsWithin n (gain_of gains
 
 -- the bytes of the first n carriers after correction
 unfoldable pub corrected_bytes : ℕ → List Complex → List Cell → List ℕ → ℕ → List ℕ
-corrected_bytes full gains cells weights n = flat_map (λ k. bytes_of (corrected full (gain_of gains k) (cell_of cells k) (slice_index weights k))) (numbers n)
+corrected_bytes full gains cells weights n = flat_map (λ k. bytes_of
+    (corrected full (gain_of gains k) (cell_of cells k) (slice_index weights k))) (numbers n)
 
 -- the gains at the points of a symbol, turned so that the middle of the guard interval has no delay
 abbrev pub AreCentred : Guard → Mode → (ℕ → Complex) → List Complex → Type 0

@@ -37,7 +37,8 @@ fn add_scaled(sums: &mut [Complex; 4], points: &[Complex], coefficient: i16)
     requires long { length points.now ≡ 4 }
     requires points { AreWithin (2 ^ 22) points.now }
     requires sums { AreWithin (2 ^ 40) sums.old }
-    ensures is { (n : ℕ) → n < 4 → gain_of sums.new n ≡ plus (gain_of sums.old n) (scaled coefficient (gain_of points.now n)) }
+    ensures is { (n : ℕ) → n < 4 → gain_of sums.new n ≡ plus (gain_of sums.old n) (scaled coefficient
+        (gain_of points.now n)) }
     ensures within { (a : ℕ) → AreWithin a sums.old → AreWithin (a + nat_abs coefficient * 2 ^ 22) sums.new }
 {
     for n in 0..4 {
@@ -50,7 +51,8 @@ fn weighted_four(row: &[i16; 12], points: &[Complex]) -> [Complex; 4]
     requires long { length points.now ≡ 15 }
     requires points { AreWithin (2 ^ 22) points.now }
     requires row { size_to 12 row.now ≤ 58154 }
-    ensures is { (n : ℕ) → n < 4 → gain_of result n ≡ sum_of (λ i. scaled (get_or row.now i (pos 0)) (gain_of points.now (n + i))) (numbers 12) }
+    ensures is { (n : ℕ) → n < 4 → gain_of result n ≡ sum_of (λ i. scaled (get_or row.now i (pos 0))
+        (gain_of points.now (n + i))) (numbers 12) }
     ensures within { (n : ℕ) → n < 4 → IsWithin (2 ^ 16 * 2 ^ 22) (gain_of result n) }
 {
     let mut sums = [Complex { re: 0, im: 0 }; 4];
@@ -64,7 +66,9 @@ fn weighted_four(row: &[i16; 12], points: &[Complex]) -> [Complex; 4]
 pub(crate) fn weighted_block(guard: Guard, points: &[Complex]) -> [[Complex; 4]; 3]
     requires long { length points.now ≡ 15 }
     requires points { AreWithin (2 ^ 22) points.now }
-    ensures is { (r n : ℕ) → r < 3 → n < 4 → gain_of (get_or result r []) n ≡ sum_of (λ i. scaled (get_or (frequency_row guard (15 + r)) i (pos 0)) (gain_of points.now (n + i))) (numbers 12) }
+    ensures is { (r n : ℕ) → r < 3 → n < 4 → gain_of (get_or result r []) n
+        ≡ sum_of (λ i. scaled (get_or (frequency_row guard (15 + r)) i (pos 0)) (gain_of points.now (n + i)))
+        (numbers 12) }
     ensures within { (r n : ℕ) → r < 3 → n < 4 → IsWithin (2 ^ 16 * 2 ^ 22) (gain_of (get_or result r []) n) }
 {
     let mut sums = [[Complex { re: 0, im: 0 }; 4]; 3];

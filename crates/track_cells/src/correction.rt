@@ -1,5 +1,6 @@
 // The correction of the cells of a symbol.
-ghost use Rattle.std.specs.Prelude.{◌≡◌, ℕ, ◌+◌, ◌*◌, ◌++◌, ◌<◌, ◌≤◌, ◌^◌, length, nat_abs, vec_len, vec_capacity, pos, ◌+ℤ◌, ◌-ℤ◌, ◌*ℤ◌};
+ghost use Rattle.std.specs.Prelude.{◌≡◌, ℕ, ◌+◌, ◌*◌, ◌++◌, ◌<◌, ◌≤◌, ◌^◌, length, nat_abs, vec_len, vec_capacity, pos};
+ghost use Rattle.std.specs.Prelude.{◌+ℤ◌, ◌-ℤ◌, ◌*ℤ◌};
 ghost use Rattle.tracking.specs.Correction.{corrected, divided};
 ghost use Rattle.track_arithmetic.specs.Laws.{IsWithin};
 ghost use Rattle.track_arithmetic.specs.Numbers.{power, value_near};
@@ -7,10 +8,10 @@ ghost use Rattle.track_cells.specs.Gains.{corrected_bytes, AreWithin};
 
 use crate::estimate;
 use crate::weights::{shared_weight, weight_of};
-use tracking::Tracked;
 use frame_build::{cell_bytes, push_five};
 use qam_map::Cell;
 use track_arithmetic::{Complex, value_by};
+use tracking::Tracked;
 
 // The product of a value of a cell and a part of a gain.
 fn product(value: i16, part: i64) -> i64
@@ -113,7 +114,8 @@ pub fn push_corrected(
     requires weights { length weights.now ≡ length gains.now }
     requires few { length gains.now ≤ 6817 }
     requires room { vec_len to.old + 5 * length gains.now ≤ vec_capacity to.old }
-    ensures appended { to.new.items ≡ to.old.items ++ corrected_bytes full gains.now cells.now weights.now (length gains.now) }
+    ensures appended { to.new.items ≡ to.old.items ++ corrected_bytes full gains.now cells.now weights.now (length
+        gains.now) }
     ensures capacity { vec_capacity to.new ≡ vec_capacity to.old }
 {
     for k in 0..gains.len() {

@@ -60,7 +60,8 @@ pub(crate) fn centre(guard: Guard, gains: &[Complex], centred: &mut [Complex])
     requires few { length gains.now ≤ 2273 }
     requires long { length centred.old ≡ length gains.now }
     ensures long { length centred.new ≡ length gains.now }
-    ensures is { (j : ℕ) → j < length gains.now → gain_of centred.new j ≡ near 14 (times (gain_of gains.now j) (turned_by (3 * j * slope guard))) }
+    ensures is { (j : ℕ) → j < length gains.now → gain_of centred.new j
+        ≡ near 14 (times (gain_of gains.now j) (turned_by (3 * j * slope guard))) }
     ensures within { AreWithin (2 ^ 22) centred.new }
 {
     let slope = slope(guard);
@@ -86,7 +87,8 @@ fn carrier_gain(guard: Guard, mode: Mode, centred: &[Complex], k: usize) -> Comp
     requires long { length centred.now ≡ points mode }
     requires centred { AreWithin (2 ^ 22) centred.now }
     requires carrier { k < carriers mode }
-    ensures is { (gains : ℕ → Gain) → AreCentred guard mode gains centred.now → result ≡ carrier_gain guard mode gains k }
+    ensures is { (gains : ℕ → Gain) → AreCentred guard mode gains centred.now → result
+        ≡ carrier_gain guard mode gains k }
     ensures within { IsWithin (2 ^ 25) result }
 {
     let first = first_point(mode, k);
@@ -109,7 +111,8 @@ pub(crate) fn put_each(
     requires end { end ≤ carriers mode }
     requires carriers { length to.old ≡ carriers mode }
     ensures carriers { length to.new ≡ carriers mode }
-    ensures is { (gains : ℕ → Gain) → AreCentred guard mode gains centred.now → AreGains guard mode gains from to.old → AreGains guard mode gains end to.new }
+    ensures is { (gains : ℕ → Gain) → AreCentred guard mode gains centred.now → AreGains guard mode gains from to.old
+        → AreGains guard mode gains end to.new }
     ensures within { AreSmall from to.old → AreSmall end to.new }
 {
     for k in from..end {
@@ -124,7 +127,8 @@ fn put_block(guard: Guard, mode: Mode, centred: &[Complex], b: usize, to: &mut [
     requires block { 4 * b + 15 ≤ points mode }
     requires carriers { length to.old ≡ carriers mode }
     ensures carriers { length to.new ≡ carriers mode }
-    ensures is { (gains : ℕ → Gain) → AreCentred guard mode gains centred.now → AreGains guard mode gains (15 + 12 * b) to.old → AreGains guard mode gains (15 + 12 * b + 12) to.new }
+    ensures is { (gains : ℕ → Gain) → AreCentred guard mode gains centred.now
+        → AreGains guard mode gains (15 + 12 * b) to.old → AreGains guard mode gains (15 + 12 * b + 12) to.new }
     ensures within { AreSmall (15 + 12 * b) to.old → AreSmall (15 + 12 * b + 12) to.new }
 {
     let sums = weighted_block(guard, &centred[4 * b..4 * b + 15]);
@@ -142,7 +146,8 @@ fn put_blocks(guard: Guard, mode: Mode, centred: &[Complex], n: usize, to: &mut 
     requires blocks { 4 * n + 11 ≤ points mode }
     requires carriers { length to.old ≡ carriers mode }
     ensures carriers { length to.new ≡ carriers mode }
-    ensures is { (gains : ℕ → Gain) → AreCentred guard mode gains centred.now → AreGains guard mode gains 15 to.old → AreGains guard mode gains (15 + 12 * n) to.new }
+    ensures is { (gains : ℕ → Gain) → AreCentred guard mode gains centred.now → AreGains guard mode gains 15 to.old
+        → AreGains guard mode gains (15 + 12 * n) to.new }
     ensures within { AreSmall 15 to.old → AreSmall (15 + 12 * n) to.new }
 {
     for b in 0..n {

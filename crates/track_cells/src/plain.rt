@@ -12,11 +12,11 @@ ghost use Rattle.track_cells.specs.Gains.{corrected_bytes, gain_of, AreWithin};
 use crate::correction::{across, along, scaled};
 use crate::frequency::{centre, put_each};
 use crate::weights::{divided_weight, shared_weight};
-use tracking::Tracked;
 use frame_build::{cell_bytes, push_five};
 use mode_set::{Guard, Mode};
 use qam_map::Cell;
 use track_arithmetic::{Complex, value_near};
+use tracking::Tracked;
 
 // The cell divided by a gain of this power.
 fn divided(gain: Complex, cell: Cell, n: u64) -> Cell
@@ -69,7 +69,8 @@ pub fn push_corrected(
     requires weights { length weights.now ≡ length gains.now }
     requires few { length gains.now ≤ 6817 }
     requires room { vec_len to.old + 5 * length gains.now ≤ vec_capacity to.old }
-    ensures appended { to.new.items ≡ to.old.items ++ corrected_bytes full gains.now cells.now weights.now (length gains.now) }
+    ensures appended { to.new.items ≡ to.old.items ++ corrected_bytes full gains.now cells.now weights.now (length
+        gains.now) }
     ensures capacity { vec_capacity to.new ≡ vec_capacity to.old }
 {
     for k in 0..gains.len() {

@@ -1,5 +1,6 @@
 -- The taps of the symbols that count, indexed by a number with one bit for each of the four symbols.
-use Rattle.std.specs.Prelude.{◌≡◌, ℕ, zero, suc, ◌+◌, ◌-◌, ◌*◌, ◌/◌, ◌%◌, ◌^◌, ◌==◌, ◌<◌, Bool, if◌then◌else◌, List, map, filter, get_or, ℤ, pos, nat_abs}
+use Rattle.std.specs.Prelude.{◌≡◌, ℕ, zero, suc, ◌+◌, ◌-◌, ◌*◌, ◌/◌, ◌%◌, ◌^◌, ◌==◌, ◌<◌, Bool, if◌then◌else◌, List}
+use Rattle.std.specs.Prelude.{map, filter, get_or, ℤ, pos, nat_abs}
 use Rattle.spec_words.specs.Words.{numbers}
 use Rattle.tracking.specs.InTime.{place, tap_at}
 use Rattle.tracking.specs.declared.motion.Motion.{Motion}

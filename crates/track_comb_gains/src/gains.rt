@@ -1,5 +1,6 @@
 // The gains at the points.
-ghost use Rattle.std.specs.Prelude.{◌≡◌, ℕ, ◌+◌, ◌-◌, ◌*◌, ◌%◌, ◌<◌, ◌≤◌, ◌^◌, List, length, get_or, map, true, nat_abs, pos};
+ghost use Rattle.std.specs.Prelude.{◌≡◌, ℕ, ◌+◌, ◌-◌, ◌*◌, ◌%◌, ◌<◌, ◌≤◌, ◌^◌, List, length, get_or, map, true};
+ghost use Rattle.std.specs.Prelude.{nat_abs, pos};
 ghost use Rattle.spec_words.specs.Words.{numbers};
 ghost use Rattle.mode_set.specs.declared.modes.Guard.{Guard};
 ghost use Rattle.tracking.specs.Comb.{comb_of, points, turned_value};
@@ -16,11 +17,11 @@ ghost use Rattle.track_cells.specs.Gains.{gain_of, AreWithin};
 ghost use Rattle.track_cells.specs.Sizes.{size_to};
 
 use crate::taps::{counting, taps};
-use tracking::Motion;
 use mode_set::Carriers;
+use track_arithmetic::{Complex, near};
 use track_motion::{Surroundings, turned_value};
 use track_pilots::PilotWindow;
-use track_arithmetic::{Complex, near};
+use tracking::Motion;
 
 // What the symbol at a place adds to the gain at a point. The file has the place, or the tap is 0.
 fn share<M: Carriers>(
@@ -38,7 +39,9 @@ fn share<M: Carriers>(
     requires place { p ≤ 15 }
     requires in_file { (tap ≡ pos 0 → ⊥) → in_file window.now.count m p ≡ true }
     requires point { j < points M.MODE }
-    ensures is { (symbols : List (List Cell)) → StandsFor M.MODE window.now symbols → IsAround (comb_of M.MODE symbols) m around.now → result ≡ scaled tap (turned_value (comb_of M.MODE symbols) m (symbol_at m p) j) }
+    ensures is { (symbols : List (List Cell)) → StandsFor M.MODE window.now symbols
+        → IsAround (comb_of M.MODE symbols) m around.now → result
+        ≡ scaled tap (turned_value (comb_of M.MODE symbols) m (symbol_at m p) j) }
     ensures within { IsWithin (nat_abs tap * 2 ^ 30) result }
 {
     if tap == 0 {
@@ -61,10 +64,14 @@ fn weighted<M: Carriers>(
     requires few { window.now.count ≤ 2 ^ 32 }
     requires look { IsLook window.now.count m around.now }
     requires distance { d < 4 }
-    requires in_file { (i : ℕ) → i < 4 → (get_or taps.now i (pos 0) ≡ pos 0 → ⊥) → in_file window.now.count m (place d i) ≡ true }
+    requires in_file { (i : ℕ) → i < 4 → (get_or taps.now i (pos 0) ≡ pos 0 → ⊥)
+        → in_file window.now.count m (place d i) ≡ true }
     requires small { size_to 4 taps.now ≤ 5620 }
     requires point { j < points M.MODE }
-    ensures is { (symbols : List (List Cell)) → StandsFor M.MODE window.now symbols → IsAround (comb_of M.MODE symbols) m around.now → result ≡ sum_of (λ i. scaled (get_or taps.now i (pos 0)) (turned_value (comb_of M.MODE symbols) m (symbol_at m (place d i)) j)) (numbers 4) }
+    ensures is { (symbols : List (List Cell)) → StandsFor M.MODE window.now symbols
+        → IsAround (comb_of M.MODE symbols) m around.now → result
+        ≡ sum_of (λ i. scaled (get_or taps.now i (pos 0)) (turned_value (comb_of M.MODE symbols) m
+        (symbol_at m (place d i)) j)) (numbers 4) }
     ensures within { IsWithin (5620 * 2 ^ 30) result }
 {
     let mut sum = Complex { re: 0, im: 0 };
@@ -96,7 +103,9 @@ fn point_gain<M: Carriers>(
     requires few { window.now.count ≤ 2 ^ 32 }
     requires look { IsLook window.now.count m around.now }
     requires point { j < points M.MODE }
-    ensures is { (symbols : List (List Cell)) (guard : Guard) → StandsFor M.MODE window.now symbols → IsAround (comb_of M.MODE symbols) m around.now → motion ≡ motion_at guard (comb_of M.MODE symbols) m → result ≡ point_gain guard (comb_of M.MODE symbols) m j }
+    ensures is { (symbols : List (List Cell)) (guard : Guard) → StandsFor M.MODE window.now symbols
+        → IsAround (comb_of M.MODE symbols) m around.now → motion ≡ motion_at guard (comb_of M.MODE symbols) m → result
+        ≡ point_gain guard (comb_of M.MODE symbols) m j }
     ensures within { IsWithin (2 ^ 21) result }
 {
     let d = distance(m, j);
@@ -125,7 +134,9 @@ pub fn point_gains<M: Carriers>(
     requires look { IsLook window.now.count m around.now }
     requires long { length gains.old ≡ points M.MODE }
     ensures long { length gains.new ≡ points M.MODE }
-    ensures is { (symbols : List (List Cell)) (guard : Guard) (j : ℕ) → StandsFor M.MODE window.now symbols → IsAround (comb_of M.MODE symbols) m around.now → motion ≡ motion_at guard (comb_of M.MODE symbols) m → j < points M.MODE → gain_of gains.new j ≡ point_gain guard (comb_of M.MODE symbols) m j }
+    ensures is { (symbols : List (List Cell)) (guard : Guard) (j : ℕ) → StandsFor M.MODE window.now symbols
+        → IsAround (comb_of M.MODE symbols) m around.now → motion ≡ motion_at guard (comb_of M.MODE symbols) m
+        → j < points M.MODE → gain_of gains.new j ≡ point_gain guard (comb_of M.MODE symbols) m j }
     ensures within { AreWithin (2 ^ 21) gains.new }
 {
     for j in 0..gains.len() {

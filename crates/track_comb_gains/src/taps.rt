@@ -9,8 +9,8 @@ ghost use Rattle.track_comb_gains.specs.Kept.{has, kept_tap, kept_taps, number_o
 ghost use Rattle.track_cells.specs.Sizes.{size_to};
 
 use crate::tables::{FAST, SLOW};
-use tracking::Motion;
 use track_motion::Surroundings;
+use tracking::Motion;
 
 // The number with these bits.
 fn number_of(first: bool, second: bool, third: bool, last: bool) -> usize
@@ -23,7 +23,8 @@ fn number_of(first: bool, second: bool, third: bool, last: bool) -> usize
 // The flags of the four places at a distance, as the bits of a number.
 fn flags(places: &[bool; 16], d: usize) -> usize
     requires { d < 4 }
-    ensures is { result ≡ number_of (get_or places.now (place d 0) false) (get_or places.now (place d 1) false) (get_or places.now (place d 2) false) (get_or places.now (place d 3) false) }
+    ensures is { result ≡ number_of (get_or places.now (place d 0) false) (get_or places.now (place d 1) false)
+        (get_or places.now (place d 2) false) (get_or places.now (place d 3) false) }
     ensures few { result < 16 }
 {
     number_of(places[3 - d], places[7 - d], places[11 - d], places[15 - d])
@@ -33,7 +34,8 @@ fn flags(places: &[bool; 16], d: usize) -> usize
 pub(crate) fn counting(around: &Surroundings, d: usize) -> usize
     requires { d < 4 }
     ensures is { (c : Comb) (m : ℕ) → IsAround c m around.now → counting c m d ≡ places_of d result }
-    ensures there { (count m i : ℕ) → IsLook count m around.now → i < 4 → has result i ≡ true → in_file count m (place d i) ≡ true }
+    ensures there { (count m i : ℕ) → IsLook count m around.now → i < 4 → has result i ≡ true
+        → in_file count m (place d i) ≡ true }
     ensures few { result < 16 }
 {
     let good = flags(&around.good, d);

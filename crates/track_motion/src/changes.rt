@@ -8,9 +8,9 @@ ghost use Rattle.track_pilots.specs.Window.{StandsFor};
 ghost use Rattle.qam_map.specs.declared.cell.Cell.{Cell};
 
 use mode_set::Carriers;
+use track_arithmetic::middle;
 use track_pilots::PilotWindow;
 use track_turns::change;
-use track_arithmetic::middle;
 
 /// The first of the places that the file has.
 pub(crate) fn first_place(m: u64) -> usize
@@ -33,7 +33,8 @@ fn change_at<M: Carriers>(window: &PilotWindow<M>, m: u64, p: usize) -> u64
     requires late { window.now.count ≤ m + 8 }
     requires few { window.now.count ≤ 2 ^ 32 }
     requires place { p < 16 }
-    ensures is { (symbols : List (List Cell)) → StandsFor M.MODE window.now symbols → first_place m < p → p < end_place window.now.count m → result ≡ change (comb_of M.MODE symbols) (symbol_at m p) }
+    ensures is { (symbols : List (List Cell)) → StandsFor M.MODE window.now symbols → first_place m < p
+        → p < end_place window.now.count m → result ≡ change (comb_of M.MODE symbols) (symbol_at m p) }
     ensures most { result ≤ 2 ^ 44 }
 {
     if p <= first_place(m) || p >= end_place(window.count(), m) {
@@ -47,7 +48,8 @@ pub(crate) fn changes<M: Carriers>(window: &PilotWindow<M>, m: u64) -> [u64; 16]
     requires there { m < window.now.count }
     requires late { window.now.count ≤ m + 8 }
     requires few { window.now.count ≤ 2 ^ 32 }
-    ensures are { (symbols : List (List Cell)) → StandsFor M.MODE window.now symbols → HasChanges (comb_of M.MODE symbols) m result }
+    ensures are { (symbols : List (List Cell)) → StandsFor M.MODE window.now symbols
+        → HasChanges (comb_of M.MODE symbols) m result }
     ensures most { (p : ℕ) → p < 16 → get_or result p 0 ≤ 2 ^ 44 }
 {
     let mut changes = [0; 16];
@@ -62,7 +64,8 @@ fn lesser_change(changes: &[u64; 16], first: usize, end: usize, p: usize) -> u64
     requires small { (k : ℕ) → k < 16 → get_or changes.now k 0 ≤ 2 ^ 44 }
     requires end { end ≤ 15 }
     requires place { p < 16 }
-    ensures is { (c : Comb) (m : ℕ) → HasChanges c m changes.now → first ≡ first_place m → end ≡ end_place c.count m → m < c.count → first ≤ p → p < end → result ≡ lesser_change c m (symbol_at m p) }
+    ensures is { (c : Comb) (m : ℕ) → HasChanges c m changes.now → first ≡ first_place m → end ≡ end_place c.count m
+        → m < c.count → first ≤ p → p < end → result ≡ lesser_change c m (symbol_at m p) }
     ensures most { result ≤ 2 ^ 44 }
 {
     let from = changes[p];
@@ -77,7 +80,8 @@ fn lesser_change(changes: &[u64; 16], first: usize, end: usize, p: usize) -> u64
 pub(crate) fn lesser_changes(changes: &[u64; 16], first: usize, end: usize) -> [u64; 16]
     requires small { (k : ℕ) → k < 16 → get_or changes.now k 0 ≤ 2 ^ 44 }
     requires end { end ≤ 15 }
-    ensures are { (c : Comb) (m : ℕ) → HasChanges c m changes.now → first ≡ first_place m → end ≡ end_place c.count m → m < c.count → HasLesser c m result }
+    ensures are { (c : Comb) (m : ℕ) → HasChanges c m changes.now → first ≡ first_place m → end ≡ end_place c.count m
+        → m < c.count → HasLesser c m result }
     ensures most { (p : ℕ) → p < 16 → get_or result p 0 ≤ 2 ^ 44 }
 {
     let mut lesser = [0; 16];
@@ -92,7 +96,8 @@ pub(crate) fn middle_change(lesser: &[u64; 16], first: usize, end: usize) -> u64
     requires small { (k : ℕ) → k < 16 → get_or lesser.now k 0 ≤ 2 ^ 44 }
     requires some { first < end }
     requires end { end ≤ 15 }
-    ensures is { (c : Comb) (m : ℕ) → HasLesser c m lesser.now → first ≡ first_place m → end ≡ end_place c.count m → m < c.count → result ≡ middle c m }
+    ensures is { (c : Comb) (m : ℕ) → HasLesser c m lesser.now → first ≡ first_place m → end ≡ end_place c.count m
+        → m < c.count → result ≡ middle c m }
     ensures most { result ≤ 2 ^ 44 }
 {
     let mut sorted = *lesser;

@@ -5,8 +5,8 @@ ghost use Rattle.tracking.specs.Tracking.{noise_by};
 ghost use Rattle.track_motion.specs.Means.{AreSmall, fast_of, most_residue, slow_of};
 
 use crate::residues::Residues;
-use tracking::Motion;
 use mode_set::Guard;
+use tracking::Motion;
 
 // The lesser of what both motions leave, of which 4/5 and 16/29 are noise.
 fn noise_of(slow: u64, fast: u64) -> u64

@@ -11,11 +11,11 @@ ghost use Rattle.qam_map.specs.declared.cell.Cell.{Cell};
 ghost use Rattle.track_arithmetic.specs.Laws.{IsWithin};
 
 use crate::surroundings::{Surroundings, is_seen};
-use tracking::Motion;
 use mode_set::Carriers;
+use track_arithmetic::{Complex, near};
 use track_pilots::PilotWindow;
 use track_turns::continual_points;
-use track_arithmetic::{Complex, near};
+use tracking::Motion;
 
 /// The running means of what the predictions by both motions leave of the continual pilots.
 #[derive(Clone, Copy, Debug, PartialEq, Eq)]
@@ -26,7 +26,8 @@ pub struct Residues {
     pub fast: u64,
 }
 
-/// Point `j` of the symbol at a place around symbol `m`, turned to the phase of symbol `m`, times 2^14. The file has the
+/// Point `j` of the symbol at a place around symbol `m`, turned to the phase of symbol `m`, times 2^14. The file has
+/// the
 /// place.
 pub fn turned_value<M: Carriers>(
     window: &PilotWindow<M>,
@@ -42,7 +43,9 @@ pub fn turned_value<M: Carriers>(
     requires place { p < 16 }
     requires in_file { in_file window.now.count m p ≡ true }
     requires point { j < points M.MODE }
-    ensures is { (symbols : List (List Cell)) → StandsFor M.MODE window.now symbols → IsAround (comb_of M.MODE symbols) m around.now → result ≡ turned_value (comb_of M.MODE symbols) m (symbol_at m p) j }
+    ensures is { (symbols : List (List Cell)) → StandsFor M.MODE window.now symbols
+        → IsAround (comb_of M.MODE symbols) m around.now → result
+        ≡ turned_value (comb_of M.MODE symbols) m (symbol_at m p) j }
     ensures within { IsWithin (2 ^ 30) result }
 {
     window.row(m + p as u64 - 7)[j].times(around.turns[p])
@@ -76,7 +79,8 @@ fn predicted<M: Carriers>(
     requires first { in_file window.now.count m 1 ≡ true }
     requires last { in_file window.now.count m 13 ≡ true }
     requires point { j < points M.MODE }
-    ensures is { (symbols : List (List Cell)) → StandsFor M.MODE window.now symbols → IsAround (comb_of M.MODE symbols) m around.now → result ≡ predicted (comb_of M.MODE symbols) motion m j }
+    ensures is { (symbols : List (List Cell)) → StandsFor M.MODE window.now symbols
+        → IsAround (comb_of M.MODE symbols) m around.now → result ≡ predicted (comb_of M.MODE symbols) motion m j }
     ensures within { IsWithin (2 ^ 18) result }
 {
     let mut sum = Complex { re: 0, im: 0 };
@@ -102,7 +106,8 @@ fn left<M: Carriers>(
     requires first { in_file window.now.count m 1 ≡ true }
     requires last { in_file window.now.count m 13 ≡ true }
     requires point { j < points M.MODE }
-    ensures is { (symbols : List (List Cell)) → StandsFor M.MODE window.now symbols → IsAround (comb_of M.MODE symbols) m around.now → result ≡ left (comb_of M.MODE symbols) motion m j }
+    ensures is { (symbols : List (List Cell)) → StandsFor M.MODE window.now symbols
+        → IsAround (comb_of M.MODE symbols) m around.now → result ≡ left (comb_of M.MODE symbols) motion m j }
     ensures most { result ≤ most_left }
 {
     let prediction = predicted(window, m, around, motion, j);
@@ -122,7 +127,8 @@ fn residue<M: Carriers>(
     requires look { IsLook window.now.count m around.now }
     requires first { in_file window.now.count m 1 ≡ true }
     requires last { in_file window.now.count m 13 ≡ true }
-    ensures is { (symbols : List (List Cell)) → StandsFor M.MODE window.now symbols → IsAround (comb_of M.MODE symbols) m around.now → result ≡ residue (comb_of M.MODE symbols) motion m }
+    ensures is { (symbols : List (List Cell)) → StandsFor M.MODE window.now symbols
+        → IsAround (comb_of M.MODE symbols) m around.now → result ≡ residue (comb_of M.MODE symbols) motion m }
     ensures most { result ≤ most_residue }
 {
     let points = continual_points(M::MODE);
@@ -174,7 +180,9 @@ pub fn follow<M: Carriers>(
     requires few { window.now.count ≤ 2 ^ 32 }
     requires look { IsLook window.now.count m around.now }
     requires small { AreSmall means }
-    ensures are { (symbols : List (List Cell)) → StandsFor M.MODE window.now symbols → IsAround (comb_of M.MODE symbols) m around.now → AreMeans (comb_of M.MODE symbols) (m - 1) means → AreMeans (comb_of M.MODE symbols) m result }
+    ensures are { (symbols : List (List Cell)) → StandsFor M.MODE window.now symbols
+        → IsAround (comb_of M.MODE symbols) m around.now → AreMeans (comb_of M.MODE symbols) (m - 1) means
+        → AreMeans (comb_of M.MODE symbols) m result }
     ensures small { AreSmall result }
 {
     if !is_seen(around) {

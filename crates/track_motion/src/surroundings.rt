@@ -1,5 +1,6 @@
 // The symbols around a symbol.
-ghost use Rattle.std.specs.Prelude.{◌≡◌, ℕ, ◌+◌, ◌-◌, ◌*◌, ◌<◌, ◌≤◌, ◌^◌, List, get_or, false, true, nat_le, nat_lt, ◌&&◌};
+ghost use Rattle.std.specs.Prelude.{◌≡◌, ℕ, ◌+◌, ◌-◌, ◌*◌, ◌<◌, ◌≤◌, ◌^◌, List, get_or, false, true, nat_le, nat_lt};
+ghost use Rattle.std.specs.Prelude.{◌&&◌};
 ghost use Rattle.tracking.specs.BadSymbols.{middle};
 ghost use Rattle.tracking.specs.Comb.{comb_of, turn, Comb};
 ghost use Rattle.tracking.specs.InTime.{is_good, is_there, symbol_at};
@@ -13,9 +14,9 @@ ghost use Rattle.track_arithmetic.specs.Numbers.{nothing};
 
 use crate::changes::{changes, end_place, first_place, lesser_changes, middle_change};
 use mode_set::Carriers;
+use track_arithmetic::Complex;
 use track_pilots::PilotWindow;
 use track_turns::turn;
-use track_arithmetic::Complex;
 
 /// What is seen around symbol m, by the places from seven symbols before it to seven after it.
 #[derive(Clone, Copy, Debug, PartialEq, Eq)]
@@ -36,7 +37,8 @@ fn turn_at<M: Carriers>(window: &PilotWindow<M>, m: u64, p: usize) -> Complex
     requires late { window.now.count ≤ m + 8 }
     requires few { window.now.count ≤ 2 ^ 32 }
     requires place { p < 16 }
-    ensures is { (symbols : List (List Cell)) → StandsFor M.MODE window.now symbols → in_file window.now.count m p ≡ true → result ≡ turn (comb_of M.MODE symbols) m (symbol_at m p) }
+    ensures is { (symbols : List (List Cell)) → StandsFor M.MODE window.now symbols → in_file window.now.count m p
+        ≡ true → result ≡ turn (comb_of M.MODE symbols) m (symbol_at m p) }
     ensures within { IsWithin (2 ^ 14) result }
 {
     if p < first_place(m) || p >= end_place(window.count(), m) {
@@ -50,7 +52,9 @@ fn turns<M: Carriers>(window: &PilotWindow<M>, m: u64) -> [Complex; 16]
     requires there { m < window.now.count }
     requires late { window.now.count ≤ m + 8 }
     requires few { window.now.count ≤ 2 ^ 32 }
-    ensures are { (symbols : List (List Cell)) (p : ℕ) → StandsFor M.MODE window.now symbols → p < 16 → in_file window.now.count m p ≡ true → get_or result p nothing ≡ turn (comb_of M.MODE symbols) m (symbol_at m p) }
+    ensures are { (symbols : List (List Cell)) (p : ℕ) → StandsFor M.MODE window.now symbols → p < 16
+        → in_file window.now.count m p ≡ true → get_or result p nothing
+        ≡ turn (comb_of M.MODE symbols) m (symbol_at m p) }
     ensures within { (p : ℕ) → p < 16 → IsWithin (2 ^ 14) (get_or result p nothing) }
 {
     let mut turns = [Complex { re: 0, im: 0 }; 16];
@@ -74,7 +78,8 @@ fn are_there(first: usize, end: usize) -> [bool; 16]
 // Which of them are not bad.
 fn are_good(lesser: &[u64; 16], middle: u64, first: usize, end: usize) -> [bool; 16]
     requires { middle ≤ 2 ^ 44 }
-    ensures { (p : ℕ) → p < 16 → get_or result p false ≡ ((nat_le first p && nat_lt p end) && nat_le (get_or lesser.now p 0) (4 * middle)) }
+    ensures { (p : ℕ) → p < 16 → get_or result p false ≡ ((nat_le first p && nat_lt p end) && nat_le
+        (get_or lesser.now p 0) (4 * middle)) }
 {
     let mut good = [false; 16];
     for p in 0..16 {
@@ -89,7 +94,8 @@ pub fn look<M: Carriers>(window: &PilotWindow<M>, m: u64) -> Surroundings
     requires late { window.now.count ≤ m + 8 }
     requires few { window.now.count ≤ 2 ^ 32 }
     ensures looks { IsLook window.now.count m result }
-    ensures are { (symbols : List (List Cell)) → StandsFor M.MODE window.now symbols → IsAround (comb_of M.MODE symbols) m result }
+    ensures are { (symbols : List (List Cell)) → StandsFor M.MODE window.now symbols
+        → IsAround (comb_of M.MODE symbols) m result }
 {
     let first = first_place(m);
     let end = end_place(window.count(), m);

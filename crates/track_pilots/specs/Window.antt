@@ -21,4 +21,5 @@ pub record HasRows (carriers : ℕ) (rows : List Complex) (count : ℕ) : Type 0
 -- the rows hold the values of the last sixteen symbols, symbol t in row t modulo 16
 pub record StandsFor (m : Mode) (w : WindowState) (symbols : List (List Cell)) : Type 0 where
   pub number : w.count ≡ length symbols
-  pub kept : (t j : ℕ) → t < length symbols → length symbols ≤ t + 16 → j < points m → get_or w.rows ((t % 16) * points m + j) nothing ≡ (comb_of m symbols).value t j
+  pub kept : (t j : ℕ) → t < length symbols → length symbols ≤ t + 16 → j < points m
+      → get_or w.rows ((t % 16) * points m + j) nothing ≡ (comb_of m symbols).value t j

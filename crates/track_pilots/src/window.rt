@@ -55,7 +55,8 @@ impl<M: Carriers> PilotWindow<M> {
         requires cells { length cells.now ≡ M.K }
         requires few { self.old.count < 2 ^ 32 }
         ensures count { self.new.count ≡ self.old.count + 1 }
-        ensures stands { (symbols : List (List AnyCell)) → StandsFor M.MODE self.old symbols → StandsFor M.MODE self.new (symbols ++ cells.now ∷ []) }
+        ensures stands { (symbols : List (List AnyCell)) → StandsFor M.MODE self.old symbols
+            → StandsFor M.MODE self.new (symbols ++ cells.now ∷ []) }
     {
         let points = (M::K as usize + 2) / 3;
         let from = (self.count % 16) as usize * points;
@@ -75,7 +76,8 @@ impl<M: Carriers> PilotWindow<M> {
         requires there { t < self.now.count }
         requires late { self.now.count ≤ t + 16 }
         ensures long { length result.now ≡ points M.MODE }
-        ensures is { (symbols : List (List AnyCell)) (j : ℕ) → StandsFor M.MODE self.now symbols → j < points M.MODE → get_or result.now j nothing ≡ (comb_of M.MODE symbols).value t j }
+        ensures is { (symbols : List (List AnyCell)) (j : ℕ) → StandsFor M.MODE self.now symbols → j < points M.MODE
+            → get_or result.now j nothing ≡ (comb_of M.MODE symbols).value t j }
         ensures within { (j : ℕ) → j < points M.MODE → IsWithin (2 ^ 15) (get_or result.now j nothing) }
     {
         let points = (M::K as usize + 2) / 3;

@@ -23,5 +23,7 @@ symbol_of symbols t = get_or symbols t (record { cells = []; weights = [] })
 -- the ring holds the last eight symbols, symbol t in row t modulo 8
 pub record Keeps (carriers : ℕ) (r : RingState) (symbols : List Symbol) : Type 0 where
   pub number : r.count ≡ length symbols
-  pub cells : (t k : ℕ) → t < length symbols → length symbols ≤ t + 8 → k < carriers → cell_of r.cells ((t % 8) * carriers + k) ≡ cell_of (symbol_of symbols t).cells k
-  pub weights : (t k : ℕ) → t < length symbols → length symbols ≤ t + 8 → k < carriers → slice_index r.weights ((t % 8) * carriers + k) ≡ slice_index (symbol_of symbols t).weights k
+  pub cells : (t k : ℕ) → t < length symbols → length symbols ≤ t + 8 → k < carriers
+      → cell_of r.cells ((t % 8) * carriers + k) ≡ cell_of (symbol_of symbols t).cells k
+  pub weights : (t k : ℕ) → t < length symbols → length symbols ≤ t + 8 → k < carriers
+      → slice_index r.weights ((t % 8) * carriers + k) ≡ slice_index (symbol_of symbols t).weights k

@@ -71,7 +71,8 @@ impl<M: Carriers> SymbolRing<M> {
         requires weights { length weights.now ≡ M.K }
         requires few { self.old.count < 2 ^ 32 }
         ensures count { self.new.count ≡ self.old.count + 1 }
-        ensures keeps { (symbols : List Symbol) → Keeps M.K self.old symbols → Keeps M.K self.new (symbols ++ record { cells = cells.now; weights = weights.now } ∷ []) }
+        ensures keeps { (symbols : List Symbol) → Keeps M.K self.old symbols
+            → Keeps M.K self.new (symbols ++ record { cells = cells.now; weights = weights.now } ∷ []) }
     {
         let carriers = M::K as usize;
         let from = (self.count % 8) as usize * carriers;
@@ -85,7 +86,8 @@ impl<M: Carriers> SymbolRing<M> {
         requires there { t < self.now.count }
         requires late { self.now.count ≤ t + 8 }
         ensures long { length result.now ≡ M.K }
-        ensures is { (symbols : List Symbol) (k : ℕ) → Keeps M.K self.now symbols → k < M.K → cell_of result.now k ≡ cell_of (symbol_of symbols t).cells k }
+        ensures is { (symbols : List Symbol) (k : ℕ) → Keeps M.K self.now symbols → k < M.K → cell_of result.now k
+            ≡ cell_of (symbol_of symbols t).cells k }
     {
         let carriers = M::K as usize;
         let from = (t % 8) as usize * carriers;
@@ -97,7 +99,8 @@ impl<M: Carriers> SymbolRing<M> {
         requires there { t < self.now.count }
         requires late { self.now.count ≤ t + 8 }
         ensures long { length result.now ≡ M.K }
-        ensures is { (symbols : List Symbol) (k : ℕ) → Keeps M.K self.now symbols → k < M.K → slice_index result.now k ≡ slice_index (symbol_of symbols t).weights k }
+        ensures is { (symbols : List Symbol) (k : ℕ) → Keeps M.K self.now symbols → k < M.K → slice_index result.now k
+            ≡ slice_index (symbol_of symbols t).weights k }
     {
         let carriers = M::K as usize;
         let from = (t % 8) as usize * carriers;

@@ -8,8 +8,8 @@ ghost use Rattle.track_arithmetic.specs.Laws.{IsWithin};
 use crate::continual::continual_points;
 use crate::sums::{differences, products};
 use mode_set::Carriers;
-use track_pilots::PilotWindow;
 use track_arithmetic::{Complex, direction, shifted};
+use track_pilots::PilotWindow;
 
 /// The turn from symbol `t` to symbol `m`, the common phase of all carriers, as a direction of amplitude 2^14.
 /// Both are among the last sixteen symbols.
@@ -19,7 +19,8 @@ pub fn turn<M: Carriers>(window: &PilotWindow<M>, m: u64, t: u64) -> Complex
     requires m_late { window.now.count ≤ m + 16 }
     requires t_there { t < window.now.count }
     requires t_late { window.now.count ≤ t + 16 }
-    ensures is { (symbols : List (List Cell)) → StandsFor M.MODE window.now symbols → result ≡ turn (comb_of M.MODE symbols) m t }
+    ensures is { (symbols : List (List Cell)) → StandsFor M.MODE window.now symbols → result
+        ≡ turn (comb_of M.MODE symbols) m t }
     ensures within { IsWithin (2 ^ 14) result }
 {
     if m == t {
@@ -35,7 +36,8 @@ pub fn change<M: Carriers>(window: &PilotWindow<M>, t: u64) -> u64
     requires first { 1 ≤ t }
     requires there { t < window.now.count }
     requires late { window.now.count ≤ t + 15 }
-    ensures is { (symbols : List (List Cell)) → StandsFor M.MODE window.now symbols → result ≡ change (comb_of M.MODE symbols) t }
+    ensures is { (symbols : List (List Cell)) → StandsFor M.MODE window.now symbols → result
+        ≡ change (comb_of M.MODE symbols) t }
     ensures most { result ≤ 2 ^ 44 }
 {
     let phase = turn(window, t, t - 1);

@@ -10,15 +10,15 @@ ghost use Rattle.track_pilots.specs.Window.{StandsFor};
 ghost use Rattle.qam_map.specs.declared.cell.Cell.{Cell};
 ghost use Rattle.track_cells.specs.Gains.{gain_of, AreWithin};
 
-use tracking::Motion;
-use track_comb_gains::point_gains;
 use mode_set::{Carriers, Guard};
-use track_motion::Surroundings;
-use track_pilots::PilotWindow;
 use std::alloc::{AllocError, Global};
 use std::marker::{Model, PhantomData};
 use track_arithmetic::Complex;
 use track_cells::interpolate;
+use track_comb_gains::point_gains;
+use track_motion::Surroundings;
+use track_pilots::PilotWindow;
+use tracking::Motion;
 
 // The gain at each carrier of symbol `m`, by that at its comb points.
 fn carrier_gains<M: Carriers>(
@@ -41,7 +41,10 @@ fn carrier_gains<M: Carriers>(
     ensures gains { length gains.new ≡ points M.MODE }
     ensures centred { length centred.new ≡ points M.MODE }
     ensures carriers { length to.new ≡ carriers M.MODE }
-    ensures is { (symbols : List (List Cell)) (k : ℕ) → StandsFor M.MODE window.now symbols → IsAround (comb_of M.MODE symbols) m around.now → motion ≡ motion_at guard (comb_of M.MODE symbols) m → k < carriers M.MODE → gain_of to.new k ≡ carrier_gain guard M.MODE (point_gain guard (comb_of M.MODE symbols) m) k }
+    ensures is { (symbols : List (List Cell)) (k : ℕ) → StandsFor M.MODE window.now symbols
+        → IsAround (comb_of M.MODE symbols) m around.now → motion ≡ motion_at guard (comb_of M.MODE symbols) m
+        → k < carriers M.MODE → gain_of to.new k ≡ carrier_gain guard M.MODE (point_gain guard (comb_of M.MODE symbols)
+        m) k }
     ensures within { AreWithin (2 ^ 25) to.new }
 {
     point_gains(window, m, around, motion, gains);
@@ -99,7 +102,10 @@ impl<M: Carriers> GainRoom<M> {
         requires late { window.now.count ≤ m + 8 }
         requires few { window.now.count ≤ 2 ^ 32 }
         requires look { IsLook window.now.count m around.now }
-        ensures is { (symbols : List (List Cell)) (k : ℕ) → StandsFor M.MODE window.now symbols → IsAround (comb_of M.MODE symbols) m around.now → motion ≡ motion_at guard (comb_of M.MODE symbols) m → k < carriers M.MODE → gain_of self.new k ≡ carrier_gain guard M.MODE (point_gain guard (comb_of M.MODE symbols) m) k }
+        ensures is { (symbols : List (List Cell)) (k : ℕ) → StandsFor M.MODE window.now symbols
+            → IsAround (comb_of M.MODE symbols) m around.now → motion ≡ motion_at guard (comb_of M.MODE symbols) m
+            → k < carriers M.MODE → gain_of self.new k ≡ carrier_gain guard M.MODE (point_gain guard
+            (comb_of M.MODE symbols) m) k }
         ensures within { AreWithin (2 ^ 25) self.new }
     {
         carrier_gains(

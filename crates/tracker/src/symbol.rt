@@ -1,5 +1,6 @@
 // The correction of a symbol.
-ghost use Rattle.std.specs.Prelude.{◌≡◌, ℕ, ◌+◌, ◌-◌, ◌*◌, ◌++◌, ◌<◌, ◌≤◌, ◌^◌, List, length, map, vec_len, vec_capacity};
+ghost use Rattle.std.specs.Prelude.{◌≡◌, ℕ, ◌+◌, ◌-◌, ◌*◌, ◌++◌, ◌<◌, ◌≤◌, ◌^◌, List, length, map, vec_len};
+ghost use Rattle.std.specs.Prelude.{vec_capacity};
 ghost use Rattle.mode_set.specs.StreamTable.{carriers};
 ghost use Rattle.tracking.specs.BadSymbols.{middle as middle_of};
 ghost use Rattle.tracking.specs.Tracking.{comb, gain, reference_power, tracked_bytes, Symbol};
@@ -10,12 +11,12 @@ ghost use Rattle.track_cells.specs.Gains.{gain_of, AreWithin};
 
 use crate::gains::GainRoom;
 use mode_set::{Carriers, Settings};
+use track_arithmetic::Complex;
+use track_cells::{full_power, mean_power, push_corrected};
 use track_motion::{Residues, follow, look, motion, noise};
 use track_pilots::PilotWindow;
 use track_ring::SymbolRing;
 use track_turns::continual_points;
-use track_arithmetic::Complex;
-use track_cells::{full_power, mean_power, push_corrected};
 
 // The power with which a cell of symbol `m` counts whole, in a file of so many symbols so far.
 fn reference_power<M: Carriers>(
@@ -34,7 +35,10 @@ fn reference_power<M: Carriers>(
     requires middle { middle ≤ 2 ^ 44 }
     requires carriers { length gains.now ≡ carriers M.MODE }
     requires gains { AreWithin (2 ^ 25) gains.now }
-    ensures is { (symbols : List Symbol) → count ≡ length symbols → AreMeans (comb settings.now symbols) m means → middle ≡ middle_of (comb settings.now symbols) m → ((k : ℕ) → k < carriers M.MODE → gain_of gains.now k ≡ gain settings.now (comb settings.now symbols) m k) → result ≡ reference_power settings.now (comb settings.now symbols) m }
+    ensures is { (symbols : List Symbol) → count ≡ length symbols → AreMeans (comb settings.now symbols) m means
+        → middle ≡ middle_of (comb settings.now symbols) m → ((k : ℕ) → k < carriers M.MODE → gain_of gains.now k ≡ gain
+        settings.now (comb settings.now symbols) m k) → result
+        ≡ reference_power settings.now (comb settings.now symbols) m }
     ensures some { 1 ≤ result }
     ensures most { result ≤ 2 ^ 52 }
 {
@@ -66,8 +70,11 @@ pub(crate) fn push_symbol<M: Carriers>(
     requires room { vec_len to.old + 5 * M.K ≤ vec_capacity to.old }
     ensures capacity { vec_capacity to.new ≡ vec_capacity to.old }
     ensures small { AreSmall result }
-    ensures means { (symbols : List Symbol) → StandsFor M.MODE window.now (map (λ x. x.cells) symbols) → AreMeans (comb settings.now symbols) (m - 1) means → AreMeans (comb settings.now symbols) m result }
-    ensures appended { (symbols : List Symbol) → StandsFor M.MODE window.now (map (λ x. x.cells) symbols) → Keeps M.K ring.now symbols → AreMeans (comb settings.now symbols) (m - 1) means → to.new.items ≡ to.old.items ++ tracked_bytes settings.now symbols m }
+    ensures means { (symbols : List Symbol) → StandsFor M.MODE window.now (map (λ x. x.cells) symbols)
+        → AreMeans (comb settings.now symbols) (m - 1) means → AreMeans (comb settings.now symbols) m result }
+    ensures appended { (symbols : List Symbol) → StandsFor M.MODE window.now (map (λ x. x.cells) symbols)
+        → Keeps M.K ring.now symbols → AreMeans (comb settings.now symbols) (m - 1) means → to.new.items ≡ to.old.items
+        ++ tracked_bytes settings.now symbols m }
 {
     let around = look(window, m);
     let after = follow(window, m, &around, means);

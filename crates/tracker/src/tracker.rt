@@ -1,16 +1,17 @@
 // The tracker.
-ghost use Rattle.std.specs.Prelude.{◌≡◌, ◌↔◌, ℕ, ◌+◌, ◌-◌, ◌*◌, ◌∷◌, ◌++◌, ◌<◌, ◌≤◌, ◌^◌, [], List, IfOk, IsTrue, false, true, if◌then◌else◌, length, vec_len, vec_capacity};
+ghost use Rattle.std.specs.Prelude.{◌≡◌, ◌↔◌, ℕ, ◌+◌, ◌-◌, ◌*◌, ◌∷◌, ◌++◌, ◌<◌, ◌≤◌, ◌^◌, [], List, IfOk, IsTrue};
+ghost use Rattle.std.specs.Prelude.{false, true, if◌then◌else◌, length, vec_len, vec_capacity};
 ghost use Rattle.tracking.specs.Tracking.{tracked_bytes, Symbol};
 ghost use Rattle.tracker.specs.Tracks.{Tracks};
 
 use crate::gains::GainRoom;
 use crate::symbol::push_symbol;
 use mode_set::{Carriers, Settings};
-use track_motion::Residues;
-use track_pilots::PilotWindow;
 use qam_map::Cell;
 use std::alloc::{AllocError, Global};
 use std::marker::Model;
+use track_motion::Residues;
+use track_pilots::PilotWindow;
 use track_ring::SymbolRing;
 
 /// Corrects the symbols of a file, each by the scattered pilots of the symbols from seven before it to seven after
@@ -35,9 +36,26 @@ impl<M: Carriers> Model for Tracker<M> {
 
     ghost Value = { TrackerState };
 
-    ghost view = { λ t. record { settings = t.settings; window = t.window; ring = t.ring; means = t.means; given = t.given; ended = t.ended } };
+    ghost view = { λ t. record {
+      settings = t.settings;
+      window = t.window;
+      ring = t.ring;
+      means = t.means;
+      given
+          = t.given;
+      ended = t.ended;
+    } };
 
-    ghost invariant = { λ t. IsTracking M.MODE (record { settings = t.settings; window = t.window; ring = t.ring; means = t.means; given = t.given; ended = t.ended }) };
+    ghost invariant = { λ t. IsTracking M.MODE
+        (record {
+          settings = t.settings;
+          window = t.window;
+          ring = t.ring;
+          means = t.means;
+          given = t.given;
+          ended
+              = t.ended;
+        }) };
 }
 
 impl<M: Carriers> Tracker<M> {
@@ -78,8 +96,11 @@ impl<M: Carriers> Tracker<M> {
         ensures going { self.new.ended ≡ false }
         ensures capacity { vec_capacity to.new ≡ vec_capacity to.old }
         ensures answer { IsTrue result ↔ 8 ≤ self.new.window.count }
-        ensures tracks { (symbols : List Symbol) → Tracks self.old symbols → Tracks self.new (symbols ++ record { cells = cells.now; weights = weights.now } ∷ []) }
-        ensures gives { (symbols : List Symbol) → Tracks self.old symbols → to.new.items ≡ to.old.items ++ (if result then tracked_bytes self.old.settings (symbols ++ record { cells = cells.now; weights = weights.now } ∷ []) (length symbols - 7) else []) }
+        ensures tracks { (symbols : List Symbol) → Tracks self.old symbols
+            → Tracks self.new (symbols ++ record { cells = cells.now; weights = weights.now } ∷ []) }
+        ensures gives { (symbols : List Symbol) → Tracks self.old symbols → to.new.items ≡ to.old.items
+            ++ (if result then tracked_bytes self.old.settings
+            (symbols ++ record { cells = cells.now; weights = weights.now } ∷ []) (length symbols - 7) else []) }
     {
         self.window.push(cells);
         self.ring.push(cells, weights);
@@ -111,7 +132,8 @@ impl<M: Carriers> Tracker<M> {
         self.ended = true;
     }
 
-    /// Appends the next of the symbols that were not given yet, and answers true, or false if none is left. The file has
+    /// Appends the next of the symbols that were not given yet, and answers true, or false if none is left. The file
+    /// has
     /// ended. The spare of `to` has room for a symbol.
     pub fn rest(&mut self, to: &mut Vec<u8>) -> bool
         requires ended { self.old.ended ≡ true }
@@ -123,7 +145,8 @@ impl<M: Carriers> Tracker<M> {
         ensures answer { IsTrue result ↔ self.old.given < self.old.window.count }
         ensures given { self.new.given ≡ (if result then self.old.given + 1 else self.old.given) }
         ensures tracks { (symbols : List Symbol) → Tracks self.old symbols → Tracks self.new symbols }
-        ensures gives { (symbols : List Symbol) → Tracks self.old symbols → to.new.items ≡ to.old.items ++ (if result then tracked_bytes self.old.settings symbols self.old.given else []) }
+        ensures gives { (symbols : List Symbol) → Tracks self.old symbols → to.new.items ≡ to.old.items
+            ++ (if result then tracked_bytes self.old.settings symbols self.old.given else []) }
     {
         if self.given == self.window.count() {
             return false;

@@ -1,5 +1,6 @@
 -- The comb points of a file: every third carrier. All pilots are among them (EN 300 744, 4.5.3 and 4.5.4).
-use Rattle.std.specs.Prelude.{ℕ, ◌+◌, ◌-◌, ◌*◌, ◌/◌, ◌==◌, min, nat_le, nat_lt, ◌&&◌, Bool, if◌then◌else◌, List, [], length, filter, get_or, ℤ, neg_ℤ, sum_by}
+use Rattle.std.specs.Prelude.{ℕ, ◌+◌, ◌-◌, ◌*◌, ◌/◌, ◌==◌, min, nat_le, nat_lt, ◌&&◌, Bool, if◌then◌else◌, List, []}
+use Rattle.std.specs.Prelude.{length, filter, get_or, ℤ, neg_ℤ, sum_by}
 use Rattle.std.specs.List.{range_with_len}
 use Rattle.spec_words.specs.Words.{numbers}
 use Rattle.mode_set.specs.StreamTable.{carriers}
@@ -21,7 +22,11 @@ unturned opposite x = if opposite then neg_ℤ x else x
 
 -- the cell of point j of a symbol, read as a pilot
 unfoldable pub pilot : List Cell → ℕ → Complex
-pilot cells j = record { re = unturned (reference (3 * j)) (cell_of cells (3 * j)).re; im = unturned (reference (3 * j)) (cell_of cells (3 * j)).im }
+pilot cells j = record {
+  re = unturned (reference (3 * j)) (cell_of cells (3 * j)).re;
+  im
+      = unturned (reference (3 * j)) (cell_of cells (3 * j)).im;
+}
 
 -- a file at its comb points: the number of its symbols, and the value of point j in symbol t
 pub record Comb : Type 0 where

@@ -19,7 +19,8 @@ slope G1of32 = 1
 
 -- row t of the coefficients, t below 34; the second half is the first reversed
 unfoldable pub frequency_row : Guard → ℕ → List ℤ
-frequency_row g t = if nat_le t 16 then get_or (frequency_rows g) t [] else reverse (get_or (frequency_rows g) (33 - t) [])
+frequency_row g t = if nat_le t 16 then get_or (frequency_rows g) t [] else reverse
+    (get_or (frequency_rows g) (33 - t) [])
 
 -- the first of the twelve points for carrier k
 abbrev pub first_point : Mode → ℕ → ℕ
@@ -31,7 +32,9 @@ centred g h j = near 14 (times (h j) (turned_by (3 * j * slope g)))
 
 -- the weighted sum of the gains at twelve points
 abbrev pub interpolated : Guard → Mode → (ℕ → Complex) → ℕ → Complex
-interpolated g m h k = near 14 (sum_of (λ i. scaled (get_or (frequency_row g (k - 3 * first_point m k)) i (pos 0)) (centred g h (first_point m k + i))) (numbers 12))
+interpolated g m h k = near 14
+    (sum_of (λ i. scaled (get_or (frequency_row g (k - 3 * first_point m k)) i (pos 0))
+    (centred g h (first_point m k + i))) (numbers 12))
 
 -- the gain at carrier k, turned back: 63 sixty-fourths of a turn forwards are one backwards
 unfoldable pub carrier_gain : Guard → Mode → (ℕ → Complex) → ℕ → Complex

@@ -1,5 +1,7 @@
--- Interpolation in time: the gain at the comb points of a symbol, from the scattered pilots of the symbols around it (EN 300 744, 4.5.3).
-use Rattle.std.specs.Prelude.{ℕ, ◌+◌, ◌-◌, ◌*◌, ◌%◌, ◌==◌, nat_le, not, ◌&&◌, Bool, if◌then◌else◌, List, [], ◌∷◌, filter, find, map, unwrap_or, ℤ, pos, ◌+ℤ◌}
+-- Interpolation in time: the gain at the comb points of a symbol, from the scattered pilots of the symbols around it
+-- (EN 300 744, 4.5.3).
+use Rattle.std.specs.Prelude.{ℕ, ◌+◌, ◌-◌, ◌*◌, ◌%◌, ◌==◌, nat_le, not, ◌&&◌, Bool, if◌then◌else◌, List, [], ◌∷◌}
+use Rattle.std.specs.Prelude.{filter, find, map, unwrap_or, ℤ, pos, ◌+ℤ◌}
 use Rattle.std.specs.List.{list_any}
 use Rattle.spec_words.specs.Words.{numbers, least, is_among}
 use Rattle.mode_set.specs.declared.modes.Guard.{Guard}
@@ -39,7 +41,8 @@ counting_of (p ∷ ps) there = p ∷ ps
 
 -- the places that count, rising
 unfoldable pub counting : Comb → ℕ → ℕ → List ℕ
-counting c m d = counting_of (filter (is_good c m) (map (place d) (numbers 4))) (filter (is_there c m) (map (place d) (numbers 4)))
+counting c m d = counting_of (filter (is_good c m) (map (place d) (numbers 4)))
+    (filter (is_there c m) (map (place d) (numbers 4)))
 
 -- the distance of a place from symbol m
 abbrev pub apart : ℕ → ℕ
@@ -63,7 +66,8 @@ tap_at f d ps p = sum_ℤ (λ i. if receiver ps (place d i) == p then tap f d i 
 
 -- the gain at point j of symbol m from the pilots at the places that count, as 16 times the value of a pilot
 abbrev pub gain_by : Comb → ℕ → ℕ → Motion → List ℕ → Complex
-gain_by c m j f ps = near 22 (sum_of (λ p. scaled (tap_at f (distance m j) ps p) (turned_value c m (symbol_at m p) j)) ps)
+gain_by c m j f ps = near 22 (sum_of (λ p. scaled (tap_at f (distance m j) ps p) (turned_value c m (symbol_at m p) j))
+    ps)
 
 -- the gain at point j of symbol m
 unfoldable pub point_gain : Guard → Comb → ℕ → ℕ → Complex

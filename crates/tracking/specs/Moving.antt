@@ -1,5 +1,6 @@
 -- The speed of the channel's changes, measured by how well neighbouring symbols predict the continual pilots.
-use Rattle.std.specs.Prelude.{ℕ, zero, suc, ◌+◌, ◌-◌, ◌*◌, ◌/◌, min, nat_le, nat_lt, not, ◌&&◌, Bool, false, if◌then◌else◌, List, [], ◌∷◌, get_or, sum_by, Option, Some, None, pos, ℤ}
+use Rattle.std.specs.Prelude.{ℕ, zero, suc, ◌+◌, ◌-◌, ◌*◌, ◌/◌, min, nat_le, nat_lt, not, ◌&&◌, Bool, false}
+use Rattle.std.specs.Prelude.{if◌then◌else◌, List, [], ◌∷◌, get_or, sum_by, Option, Some, None, pos, ℤ}
 use Rattle.std.specs.List.{list_any}
 use Rattle.spec_words.specs.Words.{numbers}
 use Rattle.mode_set.specs.declared.modes.Guard.{Guard}
@@ -19,7 +20,8 @@ tap f d i = get_or (get_or (time_taps f) d []) i (pos 0)
 -- whether the motion is measured at symbol m: the symbols 6 and 2 before and after exist, and none of the five is bad
 -- for m
 unfoldable pub is_seen : Comb → ℕ → Bool
-is_seen c m = (nat_le 6 m && nat_lt (m + 6) c.count) && not (list_any (is_bad c m) ((m - 6) ∷ (m - 2) ∷ m ∷ (m + 2) ∷ (m + 6) ∷ []))
+is_seen c m = (nat_le 6 m && nat_lt (m + 6) c.count) && not (list_any (is_bad c m)
+    ((m - 6) ∷ (m - 2) ∷ m ∷ (m + 2) ∷ (m + 6) ∷ []))
 
 -- a continual pilot of symbol m, predicted from the four symbols around it
 abbrev pub predicted : Comb → Motion → ℕ → ℕ → Complex
@@ -41,7 +43,8 @@ follows (Some s) r = followed s r
 -- the running mean after symbol m, if some symbol up to it was seen; symbol 0 never is
 unfoldable pub mean_residue : Comb → Motion → ℕ → Option ℕ
 mean_residue c f zero = None
-mean_residue c f (suc m) = if is_seen c (suc m) then Some (follows (mean_residue c f m) (residue c f (suc m))) else mean_residue c f m
+mean_residue c f (suc m) = if is_seen c (suc m) then Some (follows (mean_residue c f m) (residue c f (suc m))) else
+    mean_residue c f m
 
 -- the noise of the continual pilots: the lower estimate of both motions, whose residues are 4/5 and 16/29 noise
 abbrev pub noise_of : ℕ → ℕ → ℕ
@@ -56,7 +59,8 @@ noise_share G1of32 = 11
 
 -- whether slow interpolation has at most the error of fast: it passes a quarter of the noise, the fast one 13/16
 abbrev pub slow_is_better : Guard → ℕ → ℕ → Bool
-slow_is_better g slow fast = nat_le (16 * slow + 13 * (noise_share g * noise_of slow fast) / 16) (16 * fast + noise_share g * noise_of slow fast / 4)
+slow_is_better g slow fast = nat_le (16 * slow + 13 * (noise_share g * noise_of slow fast) / 16)
+    (16 * fast + noise_share g * noise_of slow fast / 4)
 
 -- the channel counts as slow if both residues exist and slow interpolation has at most the error of fast
 abbrev pub motion_of : Guard → Option ℕ → Option ℕ → Motion

@@ -1,6 +1,7 @@
 -- A cell file corrected by the scattered pilots of neighbouring symbols. It begins at the first symbol of a
 -- super-frame.
-use Rattle.std.specs.Prelude.{ℕ, ◌-◌, ◌/◌, ◌==◌, if◌then◌else◌, List, [], length, map, get_or, slice_index, flat_map, Option, Some, None}
+use Rattle.std.specs.Prelude.{ℕ, ◌-◌, ◌/◌, ◌==◌, if◌then◌else◌, List, [], length, map, get_or, slice_index, flat_map}
+use Rattle.std.specs.Prelude.{Option, Some, None}
 use Rattle.spec_words.specs.Words.{numbers}
 use Rattle.mode_set.specs.Entries.{entry}
 use Rattle.mode_set.specs.StreamTable.{carriers}
@@ -46,13 +47,15 @@ noise c m = noise_by (mean_residue c Slow m) (mean_residue c Fast m) (middle c m
 unfoldable pub reference_power : Settings → Comb → ℕ → ℕ
 reference_power s c m =
     if length (window c m) == 1 then mean_power s.mode (gain s c m)
-    else full_power (entry s (m / 272)).shape (mean_power s.mode (gain s c m)) (noise c m) (length (continual_points s.mode))
+    else full_power (entry s (m / 272)).shape (mean_power s.mode (gain s c m)) (noise c m)
+    (length (continual_points s.mode))
 
 -- carrier k of symbol m after correction
 unfoldable pub tracked : Settings → List Symbol → ℕ → ℕ → Tracked
 tracked s symbols m k =
     let x = get_or symbols m (record { cells = []; weights = [] }) in
-    corrected (reference_power s (comb s symbols) m) (gain s (comb s symbols) m k) (cell_of x.cells k) (slice_index x.weights k)
+    corrected (reference_power s (comb s symbols) m) (gain s (comb s symbols) m k) (cell_of x.cells k)
+    (slice_index x.weights k)
 
 -- the bytes of a corrected carrier in a cell file
 abbrev pub bytes_of : Tracked → List ℕ

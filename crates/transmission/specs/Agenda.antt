@@ -1,5 +1,7 @@
 -- The order of work in a modulation, and where it is refused (this project's own).
-use Rattle.std.specs.Prelude.{◌≡◌, ℕ, ◌+◌, ◌-◌, ◌≤◌, ◌==◌, nat_le, nat_lt, Bool, true, false, if◌then◌else◌, List, [], ◌∷◌, ◌++◌, length, map, flat_map, find, take_while, count_by, Option, Some, None, is_some, is_none, option_and_then, slice_index}
+use Rattle.std.specs.Prelude.{◌≡◌, ℕ, ◌+◌, ◌-◌, ◌≤◌, ◌==◌, nat_le, nat_lt, Bool, true, false, if◌then◌else◌, List, []}
+use Rattle.std.specs.Prelude.{◌∷◌, ◌++◌, length, map, flat_map, find, take_while, count_by, Option, Some, None, is_some}
+use Rattle.std.specs.Prelude.{is_none, option_and_then, slice_index}
 use Rattle.std.specs.List.{range_with_len}
 use Rattle.spec_words.specs.Words.{numbers}
 use Rattle.mode_set.specs.declared.modes.Stream.{Stream}
@@ -29,7 +31,8 @@ agenda s inputs = flat_map (items_of s) (numbers (symbols_of s inputs))
 
 -- the stream that still lacks a packet for symbol m, given the packets taken of HP and of LP, if any
 abbrev pub next_stream : Settings → ℕ → ℕ → ℕ → Option Stream
-next_stream s m hp lp = if nat_lt hp (packets_for s Hp (m + 1)) then Some Hp else if nat_lt lp (packets_for s Lp (m + 1)) then Some Lp else None
+next_stream s m hp lp = if nat_lt hp (packets_for s Hp (m + 1)) then Some Hp else if nat_lt lp
+    (packets_for s Lp (m + 1)) then Some Lp else None
 
 -- why a modulation stops: a limit, or a packet without the sync byte
 pub data Refusal : Type 0 where
@@ -52,7 +55,8 @@ refusal s most inputs (send_symbol m) = None
 
 -- the first item that is refused decides
 unfoldable pub first_refusal : Settings → ℕ → Inputs → Option Refusal
-first_refusal s most inputs = option_and_then (refusal s most inputs) (find (λ item. is_some (refusal s most inputs item)) (agenda s inputs))
+first_refusal s most inputs = option_and_then (refusal s most inputs)
+    (find (λ item. is_some (refusal s most inputs item)) (agenda s inputs))
 
 -- the items before it, which are done
 unfoldable pub done : Settings → ℕ → Inputs → List Item

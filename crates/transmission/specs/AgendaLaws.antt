@@ -6,7 +6,8 @@ use Rattle.mode_set.specs.declared.modes.Stream.TheVariants.{Hp, Lp}
 use Rattle.mode_set.specs.declared.settings.Settings.{Settings}
 use Rattle.transmission.specs.Transmission.{Inputs, by_stream}
 use Rattle.transmission.specs.SuperFrames.{counts_of, packets_for, super_frames, symbols_of}
-use Rattle.transmission.specs.Agenda.{Refusal, Limit, packet_refusal, first_refusal, symbols_sent, next_stream, IsEnoughFor}
+use Rattle.transmission.specs.Agenda.{Refusal, Limit, packet_refusal, first_refusal, symbols_sent, next_stream}
+use Rattle.transmission.specs.Agenda.{IsEnoughFor}
 
 -- a point in the order of work before any refusal: m symbols sent, hp and lp packets taken
 pub record IsAt (s : Settings) (most : ℕ) (inputs : Inputs) (m hp lp : ℕ) : Type 0 where
@@ -54,22 +55,28 @@ StopsAtLimit = (s : Settings) (most : ℕ) (inputs : Inputs) (m hp lp : ℕ) →
 
 -- a refused packet stops the work before its symbol
 abbrev pub StopsAtPacket : Type 0
-StopsAtPacket = (s : Settings) (most : ℕ) (inputs : Inputs) (m hp lp : ℕ) (σ : Stream) (r : Refusal) → IsAt s most inputs m hp lp
-    → m < symbols_of s inputs → m < s.max_symbols → next_stream s m hp lp ≡ Some σ → packet_refusal most inputs σ (by_stream hp lp σ) ≡ Some r → StopsAt s most inputs r m
+StopsAtPacket = (s : Settings) (most : ℕ) (inputs : Inputs) (m hp lp : ℕ) (σ : Stream) (r : Refusal)
+    → IsAt s most inputs m hp lp
+    → m < symbols_of s inputs → m < s.max_symbols → next_stream s m hp lp ≡ Some σ
+    → packet_refusal most inputs σ (by_stream hp lp σ) ≡ Some r → StopsAt s most inputs r m
 
 -- if all symbols were sent, nothing is refused
 abbrev pub EndsUnrefused : Type 0
-EndsUnrefused = (s : Settings) (most : ℕ) (inputs : Inputs) (m hp lp : ℕ) → IsAt s most inputs m hp lp → m ≡ symbols_of s inputs → GoesThrough s most inputs
+EndsUnrefused = (s : Settings) (most : ℕ) (inputs : Inputs) (m hp lp : ℕ) → IsAt s most inputs m hp lp → m
+    ≡ symbols_of s inputs → GoesThrough s most inputs
 
 -- endless work is always refused
 abbrev pub EndlessIsRefused : Type 0
-EndlessIsRefused = (s : Settings) (most : ℕ) (inputs : Inputs) → super_frames s (counts_of inputs) ≡ None → first_refusal s most inputs ≡ None → ⊥
+EndlessIsRefused = (s : Settings) (most : ℕ) (inputs : Inputs) → super_frames s (counts_of inputs) ≡ None
+    → first_refusal s most inputs ≡ None → ⊥
 
 -- the symbols sent so far are among all symbols sent
 abbrev pub SentSoFar : Type 0
-SentSoFar = (s : Settings) (most : ℕ) (inputs : Inputs) (m hp lp : ℕ) → IsAt s most inputs m hp lp → m ≤ symbols_of s inputs → m ≤ symbols_sent s most inputs
+SentSoFar = (s : Settings) (most : ℕ) (inputs : Inputs) (m hp lp : ℕ) → IsAt s most inputs m hp lp
+    → m ≤ symbols_of s inputs → m ≤ symbols_sent s most inputs
 
 -- the number of symbols sent if the next one needs a packet that is missing
 abbrev pub SentAtFault : Type 0
 SentAtFault = (s : Settings) (taken : Stream → ℕ) (ended : Stream → Bool) (m : ℕ) (σ : Stream)
-    → ((τ : Stream) → ended τ ≡ false → packets_for s τ m ≤ taken τ) → ended σ ≡ false → taken σ < packets_for s σ (m + 1) → IsEnoughFor s taken ended m
+    → ((τ : Stream) → ended τ ≡ false → packets_for s τ m ≤ taken τ) → ended σ ≡ false
+    → taken σ < packets_for s σ (m + 1) → IsEnoughFor s taken ended m

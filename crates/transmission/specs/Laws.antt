@@ -9,11 +9,13 @@ use Rattle.outer_chain.specs.Sent.{packet_at}
 use Rattle.frame_build.specs.Symbol.{sent_bytes}
 use Rattle.symbol_parameters.specs.Spans.{exists_in, words_before}
 use Rattle.transmission.specs.Transmission.{Inputs, tx_cell, tx_symbol, first_symbols}
-use Rattle.transmission.specs.SuperFrames.{Suffices, IsLength, super_frames, frames_by_formula, packets_for, ArePacketsFor}
+use Rattle.transmission.specs.SuperFrames.{Suffices, IsLength, super_frames, frames_by_formula, packets_for}
+use Rattle.transmission.specs.SuperFrames.{ArePacketsFor}
 
 -- a symbol is its cells, carriers rising
 abbrev pub SymbolsAreCells : Type 0
-SymbolsAreCells = (s : Settings) (inputs : Inputs) (m : ℕ) → tx_symbol s inputs m ≡ flat_map (λ k. sent_bytes (tx_cell s inputs m k)) (numbers (carriers s.mode))
+SymbolsAreCells = (s : Settings) (inputs : Inputs) (m : ℕ) → tx_symbol s inputs m
+    ≡ flat_map (λ k. sent_bytes (tx_cell s inputs m k)) (numbers (carriers s.mode))
 
 -- five bytes for each carrier
 abbrev pub SymbolsAreLong : Type 0
@@ -24,37 +26,45 @@ abbrev pub NoSymbol : Type 0
 NoSymbol = (s : Settings) (inputs : Inputs) → first_symbols s inputs 0 ≡ []
 
 abbrev pub OneSymbolMore : Type 0
-OneSymbolMore = (s : Settings) (inputs : Inputs) (n : ℕ) → first_symbols s inputs (n + 1) ≡ first_symbols s inputs n ++ tx_symbol s inputs n
+OneSymbolMore = (s : Settings) (inputs : Inputs) (n : ℕ) → first_symbols s inputs (n + 1) ≡ first_symbols s inputs n
+    ++ tx_symbol s inputs n
 
 -- fewer symbols, with or without part of the next one, are a prefix of more symbols
 abbrev pub FrontOfSymbols : Type 0
-FrontOfSymbols = (s : Settings) (inputs : Inputs) (m n : ℕ) → m ≤ n → (k : ℕ) × (first_symbols s inputs m ≡ take k (first_symbols s inputs n))
+FrontOfSymbols = (s : Settings) (inputs : Inputs) (m n : ℕ) → m ≤ n → (k : ℕ)
+    × (first_symbols s inputs m ≡ take k (first_symbols s inputs n))
 
 abbrev pub PartOfSymbols : Type 0
-PartOfSymbols = (s : Settings) (inputs : Inputs) (m n j : ℕ) → m < n → (k : ℕ) × (first_symbols s inputs m ++ take j (tx_symbol s inputs m) ≡ take k (first_symbols s inputs n))
+PartOfSymbols = (s : Settings) (inputs : Inputs) (m n j : ℕ) → m < n → (k : ℕ)
+    × (first_symbols s inputs m ++ take j (tx_symbol s inputs m) ≡ take k (first_symbols s inputs n))
 
 -- symbol m depends only on its own packets and those of earlier symbols
 abbrev pub SameBeginning : Settings → ℕ → Type 0
 SameBeginning s m = (inputs other : Inputs)
-    → ((σ : Stream) (i : ℕ) → i < packets_for s σ (m + 1) → packet_at (inputs σ) i ≡ packet_at (other σ) i) → tx_symbol s inputs m ≡ tx_symbol s other m
+    → ((σ : Stream) (i : ℕ) → i < packets_for s σ (m + 1) → packet_at (inputs σ) i ≡ packet_at (other σ) i)
+    → tx_symbol s inputs m ≡ tx_symbol s other m
 
 -- the least number is found, if there is one, and it is unique
 abbrev pub TheNumberIsFound : Type 0
 TheNumberIsFound = (s : Settings) (counts : Stream → ℕ) → IsLength s counts (super_frames s counts)
 
 abbrev pub OneLength : Type 0
-OneLength = (s : Settings) (counts : Stream → ℕ) (length : Option ℕ) → IsLength s counts length → super_frames s counts ≡ length
+OneLength = (s : Settings) (counts : Stream → ℕ) (length : Option ℕ) → IsLength s counts length → super_frames s counts
+    ≡ length
 
 -- super-frames that do not carry a stream are too few, and those that carry all streams are enough
 abbrev pub TooFew : Type 0
-TooFew = (s : Settings) (counts : Stream → ℕ) (k n : ℕ) (σ : Stream) → super_frames s counts ≡ Some k → IsTrue (exists_in s σ) → words_before s σ n < counts σ + 11 → n < k
+TooFew = (s : Settings) (counts : Stream → ℕ) (k n : ℕ) (σ : Stream) → super_frames s counts ≡ Some k
+    → IsTrue (exists_in s σ) → words_before s σ n < counts σ + 11 → n < k
 
 abbrev pub Enough : Type 0
-Enough = (s : Settings) (counts : Stream → ℕ) (n : ℕ) → 1 ≤ n → Suffices s counts n → (k : ℕ) × (super_frames s counts ≡ Some k) × (k ≤ n)
+Enough = (s : Settings) (counts : Stream → ℕ) (n : ℕ) → 1 ≤ n → Suffices s counts n → (k : ℕ)
+    × (super_frames s counts ≡ Some k) × (k ≤ n)
 
 -- without a plan the number always exists and has a formula
 abbrev pub ConstantFrames : Type 0
-ConstantFrames = (s : Settings) (counts : Stream → ℕ) → entries_of s.plan ≡ [] → super_frames s counts ≡ Some (frames_by_formula s counts)
+ConstantFrames = (s : Settings) (counts : Stream → ℕ) → entries_of s.plan ≡ [] → super_frames s counts
+    ≡ Some (frames_by_formula s counts)
 
 -- the packets for n symbols
 abbrev pub ThePacketsAreLeast : Type 0

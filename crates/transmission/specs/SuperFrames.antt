@@ -1,5 +1,6 @@
 -- The length of a transmission (EN 300 744, 4.7; using the fewest super-frames is this project's own choice).
-use Rattle.std.specs.Prelude.{ℕ, ◌+◌, ◌*◌, ◌≤◌, nat_le, nat_lt, max, ◌&&◌, ◌||◌, not, if◌then◌else◌, Bool, IsTrue, List, length, map, reverse, get_or, Option, Some, None, option_map, unwrap_or}
+use Rattle.std.specs.Prelude.{ℕ, ◌+◌, ◌*◌, ◌≤◌, nat_le, nat_lt, max, ◌&&◌, ◌||◌, not, if◌then◌else◌, Bool, IsTrue, List}
+use Rattle.std.specs.Prelude.{length, map, reverse, get_or, Option, Some, None, option_map, unwrap_or}
 use Rattle.spec_words.specs.Words.{first_below, rounded_up}
 use Rattle.mode_set.specs.Kept.{is_flat}
 use Rattle.mode_set.specs.Plans.{entries_of}
@@ -55,7 +56,8 @@ frames_by_formula_for s counts σ = rounded_up (counts σ + 11) (words_per_super
 
 -- the same for all streams
 abbrev pub frames_by_formula : Settings → (Stream → ℕ) → ℕ
-frames_by_formula s counts = if is_flat s.hierarchy then frames_by_formula_for s counts Hp else max (frames_by_formula_for s counts Hp) (frames_by_formula_for s counts Lp)
+frames_by_formula s counts = if is_flat s.hierarchy then frames_by_formula_for s counts Hp else max
+    (frames_by_formula_for s counts Hp) (frames_by_formula_for s counts Lp)
 
 -- the number of packets of each stream
 abbrev pub counts_of : Inputs → Stream → ℕ

@@ -32,7 +32,8 @@ paths_at s inputs m σ = from_step (paths_of inputs σ) (steps_before s σ m)
 -- bit e of the label on payload carrier q of symbol m: the coded bit of its stream at that position. The symbol has the
 -- first sent bits of the paths from its first step on (4.3.3, 4.3.4).
 unfoldable pub tx_label : Settings → Inputs → ℕ → ℕ → ℕ → Bool
-tx_label s inputs m q e = label_bit (settings_at s m) (is_odd m) (coded_bits (settings_at s m) (paths_at s inputs m)) q e
+tx_label s inputs m q e = label_bit (settings_at s m) (is_odd m) (coded_bits (settings_at s m) (paths_at s inputs m)) q
+    e
 
 -- the settings announced in symbol m: those of the next super-frame (4.6.2)
 abbrev pub announced_at : Settings → ℕ → Settings

@@ -1,6 +1,10 @@
 // The laws of a transmission, as contracts of functions with empty bodies.
-ghost use Rattle.transmission.specs.Laws.{SymbolsAreCells, SymbolsAreLong, NoSymbol, OneSymbolMore, FrontOfSymbols, PartOfSymbols, TheNumberIsFound, OneLength, ConstantFrames, TooFew, Enough, ThePacketsAreLeast, NoPackets, PacketsGrow, PacketsOfSuperFrames, SameBeginning};
-ghost use Rattle.transmission.specs.AgendaLaws.{WorkBegins, TakesOfHp, TakesOfLp, SendsSymbol, StopsAtLimit, StopsAtPacket, EndsUnrefused, EndlessIsRefused, SentSoFar, SentAtFault};
+ghost use Rattle.transmission.specs.Laws.{SymbolsAreCells, SymbolsAreLong, NoSymbol, OneSymbolMore, FrontOfSymbols};
+ghost use Rattle.transmission.specs.Laws.{PartOfSymbols, TheNumberIsFound, OneLength, ConstantFrames, TooFew, Enough};
+ghost use Rattle.transmission.specs.Laws.{ThePacketsAreLeast, NoPackets, PacketsGrow, PacketsOfSuperFrames};
+ghost use Rattle.transmission.specs.Laws.{SameBeginning};
+ghost use Rattle.transmission.specs.AgendaLaws.{WorkBegins, TakesOfHp, TakesOfLp, SendsSymbol, StopsAtLimit};
+ghost use Rattle.transmission.specs.AgendaLaws.{StopsAtPacket, EndsUnrefused, EndlessIsRefused, SentSoFar, SentAtFault};
 
 use bit_interleave::laws::each_bit_is_found;
 use frame_build::symbols_follow_labels;

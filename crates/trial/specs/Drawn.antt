@@ -1,6 +1,7 @@
 -- The random values of a trial, in order (this project's own): the counts of packets; then for each symbol the packets
 -- that it needs, a shift for each axis of its data cells, and the lengths of the pieces fed to the receiver.
-use Rattle.std.specs.Prelude.{ℕ, zero, suc, ◌+◌, ◌-◌, ◌*◌, min, if◌then◌else◌, List, map, flat_map, sum, nat_le, Option, unwrap_or}
+use Rattle.std.specs.Prelude.{ℕ, zero, suc, ◌+◌, ◌-◌, ◌*◌, min, if◌then◌else◌, List, map, flat_map, sum, nat_le, Option}
+use Rattle.std.specs.Prelude.{unwrap_or}
 use Rattle.spec_words.specs.Words.{numbers, first_below}
 use Rattle.mode_set.specs.StreamTable.{payload}
 use Rattle.mode_set.specs.declared.modes.Stream.{Stream}
@@ -74,7 +75,8 @@ packets_from s number m = by_stream (before s number m) (lp_from s number m (bef
 
 -- these packets
 unfoldable pub packets_of_symbol : Settings → ℕ → Stream → ℕ → List (List ℕ)
-packets_of_symbol s number σ m = map (λ i. packet_of (after (packet_words * i) (packets_from s number m σ))) (numbers (drawn_for s number σ m))
+packets_of_symbol s number σ m = map (λ i. packet_of (after (packet_words * i) (packets_from s number m σ))) (numbers
+    (drawn_for s number σ m))
 
 -- all packets generated: the symbols of a trial need more than the counts
 unfoldable pub drawn : Settings → ℕ → Inputs

@@ -16,7 +16,8 @@ use Rattle.trial.specs.Drawn.{before, drawn, shifts_from, trial_symbols}
 
 -- shift i of symbol m, at most the tolerance of the symbol's settings
 abbrev pub shift : Settings → ℕ → ℕ → ℕ → ℤ
-shift s number m i = shift_of (tolerance (settings_at s m).shape (settings_at s m).hierarchy) (after i (shifts_from s number m (before s number m)))
+shift s number m i = shift_of (tolerance (settings_at s m).shape (settings_at s m).hierarchy)
+    (after i (shifts_from s number m (before s number m)))
 
 -- the cell on payload carrier q, moved: the real axis by shift 2q, the imaginary one by shift 2q + 1
 abbrev pub moved : Settings → ℕ → ℕ → ℕ → Cell → Cell

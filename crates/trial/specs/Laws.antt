@@ -21,14 +21,17 @@ use Rattle.trial.specs.Fed.{fed_symbol}
 
 -- if the counts have a number of super-frames, as many packets of a stream are generated as its count says
 abbrev pub AllAreDrawn : Type 0
-AllAreDrawn = (s : Settings) (number n : ℕ) (σ : Stream) → trial_frames s number ≡ Some n → length (drawn s number σ) ≡ drawn_count s number σ
+AllAreDrawn = (s : Settings) (number n : ℕ) (σ : Stream) → trial_frames s number ≡ Some n → length (drawn s number σ)
+    ≡ drawn_count s number σ
 
 -- so the super-frames for the counts are those for the packets, and a trial's symbols are those of their transmission
 abbrev pub FramesOfDrawn : Type 0
-FramesOfDrawn = (s : Settings) (number n : ℕ) → trial_frames s number ≡ Some n → super_frames s (counts_of (drawn s number)) ≡ Some n
+FramesOfDrawn = (s : Settings) (number n : ℕ) → trial_frames s number ≡ Some n
+    → super_frames s (counts_of (drawn s number)) ≡ Some n
 
 abbrev pub SymbolsOfDrawn : Type 0
-SymbolsOfDrawn = (s : Settings) (number n : ℕ) → trial_frames s number ≡ Some n → trial_symbols s number ≡ symbols_of s (drawn s number)
+SymbolsOfDrawn = (s : Settings) (number n : ℕ) → trial_frames s number ≡ Some n → trial_symbols s number
+    ≡ symbols_of s (drawn s number)
 
 -- without a plan one super-frame is enough
 abbrev pub OneSuperFrame : Type 0
@@ -36,12 +39,15 @@ OneSuperFrame = (s : Settings) (number : ℕ) → entries_of s.plan ≡ [] → t
 
 -- the packets generated for a symbol follow those of earlier symbols
 abbrev pub DrawnInOrder : Type 0
-DrawnInOrder = (s : Settings) (number : ℕ) (σ : Stream) (m i : ℕ) → m < trial_symbols s number → i < drawn_for s number σ m
-    → packet_at (drawn s number σ) (drawn_before s number σ m + i) ≡ packet_of (after (packet_words * i) (packets_from s number m σ))
+DrawnInOrder = (s : Settings) (number : ℕ) (σ : Stream) (m i : ℕ) → m < trial_symbols s number
+    → i < drawn_for s number σ m
+    → packet_at (drawn s number σ) (drawn_before s number σ m + i)
+    ≡ packet_of (after (packet_words * i) (packets_from s number m σ))
 
 -- null packets follow them
 abbrev pub NullsBehind : Type 0
-NullsBehind = (s : Settings) (number n : ℕ) (σ : Stream) (p : ℕ) → trial_frames s number ≡ Some n → drawn_count s number σ ≤ p → packet_at (drawn s number σ) p ≡ null_packet
+NullsBehind = (s : Settings) (number n : ℕ) (σ : Stream) (p : ℕ) → trial_frames s number ≡ Some n
+    → drawn_count s number σ ≤ p → packet_at (drawn s number σ) p ≡ null_packet
 
 -- ---- cells
 
@@ -55,7 +61,8 @@ CellsAreSmall = (s : Settings) (inputs : Inputs) (m k : ℕ) → IsSmall (tx_cel
 
 -- so the cells of a symbol are read from its bytes
 abbrev pub CellsAreRead : Type 0
-CellsAreRead = (s : Settings) (inputs : Inputs) (m k : ℕ) → k < carriers s.mode → cell_from (tx_symbol s inputs m) k ≡ tx_cell s inputs m k
+CellsAreRead = (s : Settings) (inputs : Inputs) (m k : ℕ) → k < carriers s.mode → cell_from (tx_symbol s inputs m) k
+    ≡ tx_cell s inputs m k
 
 -- a disturbed symbol has the usual length
 abbrev pub FedSymbolsAreLong : Type 0
@@ -69,4 +76,5 @@ pub record AreCounted (packets : List ℕ) (tally : Tally) : Type 0 where
   pub long : length packets ≡ 188 * (tally.words - tally.unphased)
 
 abbrev pub PacketsAreCounted : Type 0
-PacketsAreCounted = (s : Settings) (bytes : List ℕ) (r : Reception) (σ : Stream) → Final s bytes r → AreCounted (r.packets σ) (r.tally σ)
+PacketsAreCounted = (s : Settings) (bytes : List ℕ) (r : Reception) (σ : Stream) → Final s bytes r
+    → AreCounted (r.packets σ) (r.tally σ)

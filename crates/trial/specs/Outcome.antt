@@ -21,7 +21,12 @@ TrialGives s number r = Final s (fed s number) r
 
 -- the result for a stream: the number of packets sent and received, and the sum of the received bytes
 abbrev pub stream_return : Settings → ℕ → Reception → Stream → StreamReturn
-stream_return s number r σ = record { packets = drawn_count s number σ; back = length (r.packets σ) / 188; sum = byte_sum (r.packets σ) }
+stream_return s number r σ = record {
+  packets = drawn_count s number σ;
+  back = length (r.packets σ) / 188;
+  sum =
+      byte_sum (r.packets σ);
+}
 
 -- the counts of the trial
 abbrev pub trial_counts : Settings → ℕ → Reception → TrialCounts

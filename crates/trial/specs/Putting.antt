@@ -48,4 +48,5 @@ pub record IsPutting (s : Settings) (m : ℕ) (d : Draws) (t : Transmitter) : Ty
   pub lp_least : packets_for s Lp m ≤ t.lp
   pub lp_most : t.lp ≤ packets_for s Lp (m + 1)
   pub in_order : packets_for s Lp m < t.lp → t.hp ≡ packets_for s Hp (m + 1)
-  pub load : d.load ≡ after (packet_words * drawn_since s d.number Lp m t.lp) (after (packet_words * drawn_since s d.number Hp m t.hp) (before s d.number m))
+  pub load : d.load ≡ after (packet_words * drawn_since s d.number Lp m t.lp)
+      (after (packet_words * drawn_since s d.number Hp m t.hp) (before s d.number m))

@@ -21,7 +21,8 @@ unfoldable pub first_fed : Settings → ℕ → ℕ → List ℕ
 first_fed s number m = flat_map (fed_symbol s number) (numbers m)
 
 -- before symbol m: everything generated, made, fed and counted belongs to earlier symbols
-pub record IsBefore (s : Settings) (m : ℕ) (d : Draws) (t : Transmitter) (x : ReceiverState) (hp lp cells : ℕ) : Type 0 where
+pub record IsBefore (s : Settings) (m : ℕ) (d : Draws) (t : Transmitter) (x : ReceiverState) (hp lp cells : ℕ) : Type
+    0 where
   pub hp_packets : d.hp_packets ≡ hp_count d.number
   pub lp_packets : d.lp_packets ≡ lp_count s d.number
   pub hp_left : d.hp_left ≡ hp_count d.number - packets_for s Hp m

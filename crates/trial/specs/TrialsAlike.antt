@@ -17,8 +17,10 @@ SameFrames = (s t : Settings) (number : ℕ) → DifferInWorkers s t → trial_f
 
 -- .. the same reception ..
 abbrev pub SameGiven : Type 0
-SameGiven = (s t : Settings) (number : ℕ) (r : Reception) → DifferInWorkers s t → TrialGives s number r → TrialGives t number r
+SameGiven = (s t : Settings) (number : ℕ) (r : Reception) → DifferInWorkers s t → TrialGives s number r
+    → TrialGives t number r
 
 -- .. and the same counts
 abbrev pub SameCounts : Type 0
-SameCounts = (s t : Settings) (number : ℕ) (r : Reception) → DifferInWorkers s t → trial_counts t number r ≡ trial_counts s number r
+SameCounts = (s t : Settings) (number : ℕ) (r : Reception) → DifferInWorkers s t → trial_counts t number r
+    ≡ trial_counts s number r

@@ -1,5 +1,6 @@
 // The disturbance of the cells of a symbol.
-ghost use Rattle.std.specs.Prelude.{◌≡◌, ◌+◌, ◌*◌, ◌%◌, ◌<◌, ◌≤◌, ◌==◌, ◌++◌, ◌+ℤ◌, if◌then◌else◌, length, nat_abs, vec_len, vec_capacity};
+ghost use Rattle.std.specs.Prelude.{◌≡◌, ◌+◌, ◌*◌, ◌%◌, ◌<◌, ◌≤◌, ◌==◌, ◌++◌, ◌+ℤ◌, if◌then◌else◌, length, nat_abs};
+ghost use Rattle.std.specs.Prelude.{vec_len, vec_capacity};
 ghost use Rattle.load_gen.specs.Draws.{after, shift_of};
 ghost use Rattle.qam_map.specs.Points.{tolerance as tolerance_of};
 ghost use Rattle.frame_build.specs.Symbol.{cell_from, sent_bytes};
@@ -11,6 +12,7 @@ ghost use Rattle.trial.specs.Laws.{IsSmall};
 ghost use Rattle.trial.specs.Disturbing.{IsNegatable, behind_cell, disturbed_by, moved_by, payload_below};
 
 use crate::draws::Draws;
+use crate::laws::cells;
 use byteorder::{BigEndian, ByteOrder};
 use load_gen::Load;
 use load_gen::laws::draws_add;
@@ -19,7 +21,6 @@ use pilots::{CarrierKind, kind, symbols_have_as_many_payload_carriers};
 use qam_map::{Cell, tolerance};
 use symbol_parameters::parameters_of_symbol;
 use transmission::laws::symbols;
-use crate::laws::cells;
 
 // The cell in the first four of five bytes.
 fn read_cell(bytes: &[u8], k: usize) -> Cell
@@ -113,11 +114,16 @@ fn next_cell<M: Carriers>(
 ) -> Cell
     requires mode { settings.now.mode ≡ M.MODE }
     requires carrier { k < M.K }
-    requires delta { delta ≡ tolerance_of (settings_at settings.now symbol).shape (settings_at settings.now symbol).hierarchy }
+    requires delta { delta ≡ tolerance_of (settings_at settings.now symbol).shape
+        (settings_at settings.now symbol).hierarchy }
     requires sent { sent.now ≡ tx_symbol settings.now (drawn settings.now draws.old.number) symbol }
-    requires load { draws.old.load ≡ after (2 * payload_below M.MODE (symbol % 68) k) (shifts_from settings.now draws.old.number symbol (before settings.now draws.old.number symbol)) }
+    requires load { draws.old.load ≡ after (2 * payload_below M.MODE (symbol % 68) k) (shifts_from settings.now
+        draws.old.number symbol (before settings.now draws.old.number symbol)) }
     ensures cell { result ≡ fed_cell settings.now draws.old.number symbol k }
-    ensures draws { draws.new ≡ record draws.old { load = after (2 * payload_below M.MODE (symbol % 68) (k + 1)) (shifts_from settings.now draws.old.number symbol (before settings.now draws.old.number symbol)) } }
+    ensures draws { draws.new ≡ record draws.old {
+      load = after (2 * payload_below M.MODE (symbol % 68) (k + 1))
+          (shifts_from settings.now draws.old.number symbol (before settings.now draws.old.number symbol));
+    } }
 {
     cells();
     symbols();
@@ -137,11 +143,15 @@ pub(crate) fn disturb<M: Carriers>(
 )
     requires mode { settings.now.mode ≡ M.MODE }
     requires sent { sent.now ≡ tx_symbol settings.now (drawn settings.now draws.old.number) symbol }
-    requires load { draws.old.load ≡ shifts_from settings.now draws.old.number symbol (before settings.now draws.old.number symbol) }
+    requires load { draws.old.load ≡ shifts_from settings.now draws.old.number symbol (before settings.now
+        draws.old.number symbol) }
     requires room { 5 * M.K ≤ vec_capacity fed.old }
     ensures room { vec_capacity fed.new ≡ vec_capacity fed.old }
     ensures fed { fed.new.items ≡ fed_symbol settings.now draws.old.number symbol }
-    ensures draws { draws.new ≡ record draws.old { load = pieces_from settings.now draws.old.number symbol (before settings.now draws.old.number symbol) } }
+    ensures draws { draws.new ≡ record draws.old {
+      load = pieces_from settings.now draws.old.number symbol
+          (before settings.now draws.old.number symbol);
+    } }
 {
     symbols_have_as_many_payload_carriers(M::MODE, (symbol % 68) as u8);
     let entry = parameters_of_symbol(settings, symbol as u64);

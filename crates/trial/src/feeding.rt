@@ -55,8 +55,10 @@ impl<M: Carriers> SummedReceiver<M> {
         ensures settings { self.new.receiver.settings ≡ self.old.receiver.settings }
         ensures going { self.new.receiver.ended ≡ false }
         ensures taken { self.new.receiver.taken ≤ self.old.receiver.taken + 1 }
-        ensures given { (bytes : List ℕ) → tail self.old.receiver.settings bytes + length piece.now ≤ symbol_length self.old.receiver.settings
-            → HasGiven self.old.receiver bytes self.old.hp self.old.lp → HasGiven self.new.receiver (bytes ++ piece.now) self.new.hp self.new.lp }
+        ensures given { (bytes : List ℕ) → tail self.old.receiver.settings bytes
+            + length piece.now ≤ symbol_length self.old.receiver.settings
+            → HasGiven self.old.receiver bytes self.old.hp self.old.lp
+            → HasGiven self.new.receiver (bytes ++ piece.now) self.new.hp self.new.lp }
     {
         self.receiver.feed_gated(rt, gate, piece, &mut self.out);
         self.add();
@@ -78,7 +80,8 @@ impl<M: Carriers> SummedReceiver<M> {
         ensures settings { self.new.receiver.settings ≡ self.old.receiver.settings }
         ensures load { load.new ≡ after (pieces load.old (length symbol.now)) load.old }
         ensures given { (bytes : List ℕ) → tail self.old.receiver.settings bytes ≡ 0
-            → HasGiven self.old.receiver bytes self.old.hp self.old.lp → HasGiven self.new.receiver (bytes ++ symbol.now) self.new.hp self.new.lp }
+            → HasGiven self.old.receiver bytes self.old.hp self.old.lp
+            → HasGiven self.new.receiver (bytes ++ symbol.now) self.new.hp self.new.lp }
     {
         draws_add();
         let mut fed = 0;
@@ -93,7 +96,8 @@ impl<M: Carriers> SummedReceiver<M> {
     pub fn finish<R: Threads + Sync>(&mut self, rt: &R)
         requires going { self.old.receiver.ended ≡ false }
         ensures settings { self.new.receiver.settings ≡ self.old.receiver.settings }
-        ensures ended { (bytes : List ℕ) → HasGiven self.old.receiver bytes self.old.hp self.old.lp → HasEnded self.new.receiver bytes self.new.hp self.new.lp }
+        ensures ended { (bytes : List ℕ) → HasGiven self.old.receiver bytes self.old.hp self.old.lp
+            → HasEnded self.new.receiver bytes self.new.hp self.new.lp }
     {
         self.receiver.finish(rt, &mut self.out);
         self.add();

@@ -1,5 +1,6 @@
 // The laws of a trial, as contracts of functions with empty bodies.
-ghost use Rattle.trial.specs.Laws.{AllAreDrawn, FramesOfDrawn, SymbolsOfDrawn, OneSuperFrame, DrawnInOrder, NullsBehind, CellsAreSmall, CellsAreRead, FedSymbolsAreLong, PacketsAreCounted};
+ghost use Rattle.trial.specs.Laws.{AllAreDrawn, FramesOfDrawn, SymbolsOfDrawn, OneSuperFrame, DrawnInOrder};
+ghost use Rattle.trial.specs.Laws.{NullsBehind, CellsAreSmall, CellsAreRead, FedSymbolsAreLong, PacketsAreCounted};
 
 /// The random packets, if their counts have a number of super-frames: as many as the counts, in the order of the
 /// symbols that need them, then null packets. Without a plan one super-frame carries them.

@@ -4,12 +4,12 @@ ghost use Rattle.reception.specs.Streams.{Reception};
 ghost use Rattle.trial.specs.Drawn.{trial_frames};
 ghost use Rattle.trial.specs.Outcome.{TrialGives, trial_counts};
 
+use crate::TrialCounts;
 use crate::work::Work;
 use mode_set::{Carriers, Settings};
 use std::alloc::{AllocError, Global};
 use std::marker::Model;
 use std::thread::Threads;
-use crate::TrialCounts;
 use word_workers::Gate;
 
 /// A trial of settings and a number: random packets from the number are modulated, the cells are disturbed and received
@@ -30,7 +30,8 @@ impl<M: Carriers> Model for Trial<M> {
 
     ghost view = { λ t. record { settings = t.settings; number = t.work.draws.number } };
 
-    ghost invariant = { λ t. (t.settings.mode ≡ M.MODE) × (5 * M.K ≤ vec_capacity t.work.sent) × (5 * M.K ≤ vec_capacity t.work.fed)
+    ghost invariant = { λ t. (t.settings.mode ≡ M.MODE) × (5 * M.K ≤ vec_capacity t.work.sent)
+        × (5 * M.K ≤ vec_capacity t.work.fed)
         × IsBefore t.settings 0 t.work.draws t.work.tx t.work.rx.receiver t.work.rx.hp t.work.rx.lp t.work.cells };
 }
 
@@ -59,7 +60,8 @@ impl<M: Carriers> Trial<M> {
     pub fn run<R: Threads + Sync, G: Gate>(self, rt: &R, gate: &G, super_frames: u64) -> TrialCounts
         requires frames { trial_frames self.settings self.number ≡ Some super_frames }
         requires few { 272 * super_frames < 2 ^ 32 }
-        ensures counts { (r : Reception) × TrialGives self.settings self.number r × (result ≡ trial_counts self.settings self.number r) }
+        ensures counts { (r : Reception) × TrialGives self.settings self.number r
+            × (result ≡ trial_counts self.settings self.number r) }
     {
         let settings = self.settings;
         let mut work = self.work;

@@ -11,14 +11,14 @@ ghost use Rattle.trial.specs.State.{IsBefore};
 use crate::disturbing::disturb;
 use crate::draws::{Draws, put_wanted};
 use crate::feeding::SummedReceiver;
+use crate::laws::{cells, packets_back};
 use crate::sums::sum_onto;
+use crate::{StreamReturn, TrialCounts};
 use mode_set::{Carriers, Settings};
 use modulator::Modulator;
 use rx_report::StreamCounts;
 use std::alloc::{AllocError, Global};
 use std::thread::Threads;
-use crate::laws::{cells, packets_back};
-use crate::{StreamReturn, TrialCounts};
 use word_workers::Gate;
 
 // The result for a stream: one packet for each word with a phase.
@@ -86,11 +86,13 @@ impl<M: Carriers> Work<M> {
         requires within { symbol < trial_symbols settings.now self.old.draws.number }
         requires sent { 5 * M.K ≤ vec_capacity self.old.sent }
         requires fed { 5 * M.K ≤ vec_capacity self.old.fed }
-        requires before { IsBefore settings.now symbol self.old.draws self.old.tx self.old.rx.receiver self.old.rx.hp self.old.rx.lp self.old.cells }
+        requires before { IsBefore settings.now symbol self.old.draws self.old.tx self.old.rx.receiver self.old.rx.hp
+            self.old.rx.lp self.old.cells }
         ensures number { self.new.draws.number ≡ self.old.draws.number }
         ensures sent { vec_capacity self.new.sent ≡ vec_capacity self.old.sent }
         ensures fed { vec_capacity self.new.fed ≡ vec_capacity self.old.fed }
-        ensures next { IsBefore settings.now (symbol + 1) self.new.draws self.new.tx self.new.rx.receiver self.new.rx.hp self.new.rx.lp self.new.cells }
+        ensures next { IsBefore settings.now (symbol + 1) self.new.draws self.new.tx self.new.rx.receiver self.new.rx.hp
+            self.new.rx.lp self.new.cells }
     {
         cells();
         transmission::laws::packets();
@@ -128,9 +130,11 @@ impl<M: Carriers> Work<M> {
         requires all { symbols ≡ trial_symbols settings.now self.old.draws.number }
         requires sent { 5 * M.K ≤ vec_capacity self.old.sent }
         requires fed { 5 * M.K ≤ vec_capacity self.old.fed }
-        requires first { IsBefore settings.now 0 self.old.draws self.old.tx self.old.rx.receiver self.old.rx.hp self.old.rx.lp self.old.cells }
+        requires first { IsBefore settings.now 0 self.old.draws self.old.tx self.old.rx.receiver self.old.rx.hp
+            self.old.rx.lp self.old.cells }
         ensures number { self.new.draws.number ≡ self.old.draws.number }
-        ensures last { IsBefore settings.now symbols self.new.draws self.new.tx self.new.rx.receiver self.new.rx.hp self.new.rx.lp self.new.cells }
+        ensures last { IsBefore settings.now symbols self.new.draws self.new.tx self.new.rx.receiver self.new.rx.hp
+            self.new.rx.lp self.new.cells }
     {
         for symbol in 0..symbols {
             self.next_symbol(rt, gate, settings, symbol);
@@ -139,8 +143,10 @@ impl<M: Carriers> Work<M> {
 
     /// Ends the reception and counts.
     pub fn finish<R: Threads + Sync>(&mut self, rt: &R, settings: &Settings) -> TrialCounts
-        requires last { IsBefore settings.now (trial_symbols settings.now self.old.draws.number) self.old.draws self.old.tx self.old.rx.receiver self.old.rx.hp self.old.rx.lp self.old.cells }
-        ensures counts { (r : Reception) × TrialGives settings.now self.old.draws.number r × (result ≡ trial_counts settings.now self.old.draws.number r) }
+        requires last { IsBefore settings.now (trial_symbols settings.now self.old.draws.number) self.old.draws
+            self.old.tx self.old.rx.receiver self.old.rx.hp self.old.rx.lp self.old.cells }
+        ensures counts { (r : Reception) × TrialGives settings.now self.old.draws.number r
+            × (result ≡ trial_counts settings.now self.old.draws.number r) }
     {
         packets_back();
         self.rx.finish(rt);

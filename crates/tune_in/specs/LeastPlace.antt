@@ -1,6 +1,7 @@
 -- The least place in the symbols of a file, as a function: an exhaustive search through the symbols and all valid
 -- fields (EN 300 744, 4.6.2).
-use Rattle.std.specs.Prelude.{◌≡◌, ℕ, suc, ◌-◌, ◌==◌, min, nat_le, Bool, true, false, not, ◌&&◌, ◌||◌, List, [], ◌∷◌, Option, Some, None, if◌then◌else◌}
+use Rattle.std.specs.Prelude.{◌≡◌, ℕ, suc, ◌-◌, ◌==◌, min, nat_le, Bool, true, false, not, ◌&&◌, ◌||◌, List, [], ◌∷◌}
+use Rattle.std.specs.Prelude.{Option, Some, None, if◌then◌else◌}
 use Rattle.std.specs.Option.{option_map, option_or}
 use Rattle.spec_words.specs.Words.{numbers}
 use Rattle.mode_set.specs.Kept.{is_flat, is_qpsk}
@@ -52,7 +53,8 @@ is_half R7of8 = false
 
 -- fields of a frame from 1 to 4 and a byte below 256 that are valid
 abbrev pub fit_together : TpsWord → Bool
-fit_together t = (not (is_qpsk t.shape) || is_flat t.hierarchy) && ((not (is_flat t.hierarchy) || is_half t.rate_lp) && (t.with_cell || (t.cell_byte == 0)))
+fit_together t = (not (is_qpsk t.shape) || is_flat t.hierarchy)
+    && ((not (is_flat t.hierarchy) || is_half t.rate_lp) && (t.with_cell || (t.cell_byte == 0)))
 
 -- the bits are within two errors of the word of these valid fields
 unfoldable pub is_signalled : List Bool → TpsWord → Bool
@@ -61,9 +63,22 @@ is_signalled bits t = fit_together t && nat_le (bit_distance bits (tps_word t)) 
 -- the fields of this mode that the bits signal, if any
 unfoldable pub fields_of : Mode → List Bool → Option TpsWord
 fields_of mode bits =
-    first_answer (numbers 4) (λ f. first_answer bools (λ with_cell. first_answer shapes (λ shape. first_answer hierarchies (λ hierarchy.
-    first_answer rates (λ rate_hp. first_answer rates (λ rate_lp. first_answer guards (λ guard. first_answer (numbers 256) (λ cell_byte.
-    let t : TpsWord = record { frame = suc f; with_cell = with_cell; shape = shape; hierarchy = hierarchy; rate_hp = rate_hp; rate_lp = rate_lp; guard = guard; mode = mode; cell_byte = cell_byte } in
+    first_answer (numbers 4) (λ f. first_answer bools (λ with_cell. first_answer shapes
+    (λ shape. first_answer hierarchies (λ hierarchy.
+    first_answer rates (λ rate_hp. first_answer rates (λ rate_lp. first_answer guards
+    (λ guard. first_answer (numbers 256) (λ cell_byte.
+    let t : TpsWord = record {
+      frame = suc f;
+      with_cell = with_cell;
+      shape = shape;
+      hierarchy = hierarchy;
+      rate_hp
+          = rate_hp;
+      rate_lp = rate_lp;
+      guard = guard;
+      mode = mode;
+      cell_byte = cell_byte;
+    } in
     if is_signalled bits t then Some t else None))))))))
 
 -- the symbols of the bytes within the limit of the settings
@@ -72,7 +87,8 @@ held s bytes = min (symbols s bytes) s.max_symbols
 
 -- the least place among them, if any; 67 symbols follow it
 unfoldable pub place_of : Settings → List ℕ → Option Found
-place_of s bytes = first_answer (numbers (held s bytes - 67)) (λ i. option_map (λ w. record { place = i; word = w }) (fields_of s.mode (bits_from (tps_cells s bytes) i)))
+place_of s bytes = first_answer (numbers (held s bytes - 67))
+    (λ i. option_map (λ w. record { place = i; word = w }) (fields_of s.mode (bits_from (tps_cells s bytes) i)))
 
 -- the symbols within the limit hold this least place
 abbrev pub HoldsPlace : Settings → List ℕ → Found → Type 0

@@ -24,19 +24,23 @@ HasNoPlace s bytes = NoPlace s.mode (tps_cells s bytes) (symbols s bytes)
 
 -- what a tuner finds in the symbols of the bytes is found in the bytes
 abbrev pub FoundInBytes : Type 0
-FoundInBytes = (s : Settings) (bytes : List ℕ) (found : Found) → IsFound s.mode (tps_of s.mode (symbols_of s bytes)) (length (symbols_of s bytes)) found → IsFoundIn s bytes found
+FoundInBytes = (s : Settings) (bytes : List ℕ) (found : Found)
+    → IsFound s.mode (tps_of s.mode (symbols_of s bytes)) (length (symbols_of s bytes)) found → IsFoundIn s bytes found
 
 -- if a tuner finds none, there is none
 abbrev pub NoneInBytes : Type 0
-NoneInBytes = (s : Settings) (bytes : List ℕ) → NoPlace s.mode (tps_of s.mode (symbols_of s bytes)) (length (symbols_of s bytes)) → HasNoPlace s bytes
+NoneInBytes = (s : Settings) (bytes : List ℕ) → NoPlace s.mode (tps_of s.mode (symbols_of s bytes)) (length
+    (symbols_of s bytes)) → HasNoPlace s bytes
 
 -- a place found stays found if more bytes follow
 abbrev pub FoundStaysInBytes : Type 0
-FoundStaysInBytes = (s : Settings) (bytes more : List ℕ) (found : Found) → IsFoundIn s bytes found → IsFoundIn s (bytes ++ more) found
+FoundStaysInBytes = (s : Settings) (bytes more : List ℕ) (found : Found) → IsFoundIn s bytes found
+    → IsFoundIn s (bytes ++ more) found
 
 -- bytes that complete a symbol add that symbol
 abbrev pub SymbolIsAdded : Type 0
-SymbolIsAdded = (s : Settings) (bytes more : List ℕ) → EndsSymbol s bytes more → symbols_of s (bytes ++ more) ≡ symbols_of s bytes ++ symbol_cells s (bytes ++ more) (symbols s bytes) ∷ []
+SymbolIsAdded = (s : Settings) (bytes more : List ℕ) → EndsSymbol s bytes more → symbols_of s (bytes ++ more)
+    ≡ symbols_of s bytes ++ symbol_cells s (bytes ++ more) (symbols s bytes) ∷ []
 
 -- the bytes from the first symbol of the next super-frame on
 abbrev pub rest : Settings → List ℕ → Found → List ℕ

@@ -34,8 +34,10 @@ begin found = found.place + 68 * (5 - found.word.frame)
 
 -- at most one place is found, with one word
 abbrev pub OneFound : Type 0
-OneFound = (mode : Mode) (cells : ℕ → List Cell) (n : ℕ) (found other : Found) → IsFound mode cells n found → IsFound mode cells n other → found ≡ other
+OneFound = (mode : Mode) (cells : ℕ → List Cell) (n : ℕ) (found other : Found) → IsFound mode cells n found
+    → IsFound mode cells n other → found ≡ other
 
 -- a place found stays found with more symbols
 abbrev pub FoundStays : Type 0
-FoundStays = (mode : Mode) (cells : ℕ → List Cell) (n m : ℕ) (found : Found) → n ≤ m → IsFound mode cells n found → IsFound mode cells m found
+FoundStays = (mode : Mode) (cells : ℕ → List Cell) (n m : ℕ) (found : Found) → n ≤ m → IsFound mode cells n found
+    → IsFound mode cells m found

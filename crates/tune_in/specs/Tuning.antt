@@ -1,5 +1,6 @@
 -- The symbols that a tuner has received.
-use Rattle.std.specs.Prelude.{◌≡◌, ℕ, ◌+◌, ◌-◌, ◌^◌, ◌<◌, ◌≤◌, min, Bool, false, List, [], length, take, get_or, Option, Some, None}
+use Rattle.std.specs.Prelude.{◌≡◌, ℕ, ◌+◌, ◌-◌, ◌^◌, ◌<◌, ◌≤◌, min, Bool, false, List, [], length, take, get_or, Option}
+use Rattle.std.specs.Prelude.{Some, None}
 use Rattle.mode_set.specs.declared.modes.Mode.{Mode}
 use Rattle.pilots.specs.Carriers.{tps_carriers}
 use Rattle.qam_map.specs.declared.cell.Cell.{Cell}
@@ -40,4 +41,5 @@ pub record StandsFor (mode : Mode) (t : TunerState) (symbols : List (List Cell))
 -- the answer to the last of these symbols: the least place, if this symbol is the last of its frame
 abbrev pub Answers : Mode → List (List Cell) → Option Found → Type 0
 Answers mode symbols None = NoPlace mode (tps_of mode symbols) (length symbols)
-Answers mode symbols (Some found) = IsFound mode (tps_of mode symbols) (length symbols) found × (found.place + 68 ≡ length symbols)
+Answers mode symbols (Some found) = IsFound mode (tps_of mode symbols) (length symbols) found
+    × (found.place + 68 ≡ length symbols)

@@ -1,5 +1,6 @@
 // The tuner.
-ghost use Rattle.std.specs.Prelude.{◌≡◌, ◌+◌, ◌∷◌, ◌++◌, ◌<◌, ◌≤◌, ◌^◌, [], ℕ, List, false, IfOk, IfSome, IfNone, None, length, take, is_some};
+ghost use Rattle.std.specs.Prelude.{◌≡◌, ◌+◌, ◌∷◌, ◌++◌, ◌<◌, ◌≤◌, ◌^◌, [], ℕ, List, false, IfOk, IfSome, IfNone, None};
+ghost use Rattle.std.specs.Prelude.{length, take, is_some};
 ghost use Rattle.tps_word.specs.Vote.{tps_cells_of, vote};
 ghost use Rattle.tps_word.specs.declared.word.TpsWord.{TpsWord as Word};
 ghost use Rattle.tune_in.specs.Places.{Announces};
@@ -42,7 +43,8 @@ fn keep_vote(
 )
     requires few { count ≤ 68 }
     ensures first { symbols ≡ 0 → votes.new ≡ votes.old }
-    ensures later { 0 < symbols → votes.new ≡ buffer (keep_last votes.old.capacity (votes.old.items ++ vote (take count before.now) (take count now.now) ∷ [])) votes.old.capacity }
+    ensures later { 0 < symbols → votes.new ≡ buffer (keep_last votes.old.capacity
+        (votes.old.items ++ vote (take count before.now) (take count now.now) ∷ [])) votes.old.capacity }
 {
     if symbols == 0 {
         return;
@@ -98,7 +100,8 @@ impl<M: Carriers> Tuner<M> {
         requires few { self.old.symbols < 2 ^ 32 }
         ensures symbols { self.new.symbols ≡ self.old.symbols + 1 }
         ensures found { self.new.found ≡ self.old.found }
-        ensures keeps { (shown : ℕ → List AnyCell) (n : ℕ) → shown n ≡ tps_cells_of M.MODE cells.now → Keeps M.MODE self.old shown n → Keeps M.MODE self.new shown (n + 1) }
+        ensures keeps { (shown : ℕ → List AnyCell) (n : ℕ) → shown n ≡ tps_cells_of M.MODE cells.now
+            → Keeps M.MODE self.old shown n → Keeps M.MODE self.new shown (n + 1) }
     {
         let mut now = [Cell { re: 0, im: 0 }; 68];
         let count = take_tps_cells(M::MODE, cells, &mut now);
@@ -129,8 +132,10 @@ impl<M: Carriers> Tuner<M> {
         requires few { self.old.symbols < 2 ^ 32 }
         ensures symbols { self.new.symbols ≡ self.old.symbols + 1 }
         ensures found { self.new.found ≡ is_some result }
-        ensures answer { (symbols : List (List AnyCell)) → StandsFor M.MODE self.old symbols → Answers M.MODE (symbols ++ cells.now ∷ []) result }
-        ensures stands { (symbols : List (List AnyCell)) → StandsFor M.MODE self.old symbols → IfNone result (StandsFor M.MODE self.new (symbols ++ cells.now ∷ [])) }
+        ensures answer { (symbols : List (List AnyCell)) → StandsFor M.MODE self.old symbols
+            → Answers M.MODE (symbols ++ cells.now ∷ []) result }
+        ensures stands { (symbols : List (List AnyCell)) → StandsFor M.MODE self.old symbols
+            → IfNone result (StandsFor M.MODE self.new (symbols ++ cells.now ∷ [])) }
         ensures place { IfSome result (λ f. f.place < 2 ^ 32) }
         ensures word { IfSome result (λ f. IsValid f.word) }
         ensures mode { IfSome result (λ f. f.word.mode ≡ M.MODE) }

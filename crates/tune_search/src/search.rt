@@ -22,8 +22,10 @@ pub trait PlaceSearch {
     /// Takes the next symbol, or the part of it that ends the cells. Returns the least place exactly if this
     /// symbol is the last of its frame.
     fn take(&mut self, piece: &[u8]) -> Option<Found>
-        requires going { (s : Settings) × (bytes : List ℕ) × (s.mode ≡ mode) × stands self.old s bytes × (symbols s bytes < 2 ^ 32) }
-        ensures takes { (s : Settings) (bytes : List ℕ) → s.mode ≡ mode → stands self.old s bytes → tail s bytes ≡ 0 → length piece.now ≤ symbol_length s
+        requires going { (s : Settings) × (bytes : List ℕ) × (s.mode ≡ mode) × stands self.old s bytes
+            × (symbols s bytes < 2 ^ 32) }
+        ensures takes { (s : Settings) (bytes : List ℕ) → s.mode ≡ mode → stands self.old s bytes → tail s bytes ≡ 0
+            → length piece.now ≤ symbol_length s
             → Searched s (stands self.new s) (bytes ++ piece.now) result }
         ensures place { IfSome result (λ found. found.place < 2 ^ 32) }
         ensures word { IfSome result (λ found. IsValid found.word) };

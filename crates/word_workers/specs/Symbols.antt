@@ -21,7 +21,8 @@ pub record HasRun (old new : BranchState) : Type 0 where
   pub loaded : new.loaded ≡ []
   pub steps : new.decoder.steps ≡ old.decoder.steps + length old.loaded
   pub amount : length new.wait + new.decoder.waiting ≡ length old.wait + old.decoder.waiting + length old.loaded
-  pub ran : (a : Option (List Bool)) (c : List CostPair) (g : List Bool) → Stands 2048 old.decoder a c g → RanSymbol 2048 new.decoder a c g old.loaded old.wait new.wait (ats new.events)
+  pub ran : (a : Option (List Bool)) (c : List CostPair) (g : List Bool) → Stands 2048 old.decoder a c g
+      → RanSymbol 2048 new.decoder a c g old.loaded old.wait new.wait (ats new.events)
 
 -- the decoder has not ended, no pair is loaded, there are at most 31,752 of these pairs, fewer than eight bits are
 -- pending, and fewer than 2^61 steps were made

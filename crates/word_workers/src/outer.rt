@@ -19,7 +19,9 @@ fn decode_one<G: Gate>(gate: &G, number: u32, slot: &mut WordSlot)
 /// Decodes the words of a chunk in order; the first has number `start`.
 fn decode_chunk<G: Gate>(gate: &G, start: usize, chunk: &mut [WordSlot])
     requires few { start + length chunk.old ≤ 24 }
-    ensures each { (i : ℕ) (d : WordSlot) → i < length chunk.old → Decoded (slice_index_or chunk.old i d).word (slice_index_or chunk.new i d).word (slice_index_or chunk.new i d).outcome }
+    ensures each { (i : ℕ) (d : WordSlot) → i < length chunk.old
+        → Decoded (slice_index_or chunk.old i d).word (slice_index_or chunk.new i d).word
+        (slice_index_or chunk.new i d).outcome }
     ensures entered { (i : ℕ) → i < length chunk.old → IsTrue (G.has_entered gate.now Job.Outer (start + i)) }
 {
     for k in 0..chunk.len() {
@@ -48,7 +50,9 @@ pub fn decode_all<R: Threads + Sync, G: Gate>(rt: &R, workers: u8, gate: &G, slo
     requires some_worker { 1 ≤ workers }
     requires few_workers { workers ≤ 16 }
     requires few_slots { length slots.old ≤ 24 }
-    ensures each { (i : ℕ) (d : WordSlot) → i < length slots.old → Decoded (slice_index_or slots.old i d).word (slice_index_or slots.new i d).word (slice_index_or slots.new i d).outcome }
+    ensures each { (i : ℕ) (d : WordSlot) → i < length slots.old
+        → Decoded (slice_index_or slots.old i d).word (slice_index_or slots.new i d).word
+        (slice_index_or slots.new i d).outcome }
     ensures entered { (i : ℕ) → i < length slots.old → IsTrue (G.has_entered gate.now Job.Outer i) }
 {
     if slots.is_empty() {
@@ -57,8 +61,11 @@ pub fn decode_all<R: Threads + Sync, G: Gate>(rt: &R, workers: u8, gate: &G, slo
     let size = chunk_len(slots.len(), workers);
     let work = |start: usize, chunk: &mut [WordSlot]|
         requires { start + length chunk.now ≤ 24 }
-        ensures each { (i : ℕ) (d : WordSlot) → i < length chunk.entry.now → Decoded (slice_index_or chunk.entry.now i d).word (slice_index_or chunk.exit.now i d).word (slice_index_or chunk.exit.now i d).outcome }
-        ensures entered { (i : ℕ) → i < length chunk.entry.now → IsTrue (G.has_entered gate.entry.now Job.Outer (start + i)) }
+        ensures each { (i : ℕ) (d : WordSlot) → i < length chunk.entry.now
+            → Decoded (slice_index_or chunk.entry.now i d).word (slice_index_or chunk.exit.now i d).word
+            (slice_index_or chunk.exit.now i d).outcome }
+        ensures entered { (i : ℕ) → i < length chunk.entry.now
+            → IsTrue (G.has_entered gate.entry.now Job.Outer (start + i)) }
     { decode_chunk(gate, start, chunk) };
     for_each_chunk_mut(rt, slots, size, &work);
 }
