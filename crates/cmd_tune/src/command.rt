@@ -114,6 +114,7 @@ fn tune_accepted<'a, R: Threads + Sync, G: Gate, S: Station<'a>>(
 }
 
 /// Runs `tune SETTINGS CELLS HP` or, with a file of LP, `tune SETTINGS CELLS HP LP`, and returns its status.
+/// `files` are all but the settings.
 ///
 /// Its promise is `Run` of its definition, `tune_command`. The cells begin at any symbol. Of the settings
 /// only the mode, the workers and the limit are used; the first readable frame announces the rest. The
@@ -125,15 +126,13 @@ pub fn tune<'a, R: Threads + Sync, G: Gate, S: Station<'a>>(
     alloc: Global,
     gate: &G,
     settings: &'a str,
-    cells: &'a str,
-    hp: &'a str,
-    lp: Option<&'a str>,
+    files: ReceptionFiles<'a>,
     limits: &Limits,
     station: &mut S,
 ) -> u8
     requires fresh { IsFresh (S.meaning station.old) }
-    ensures { Run (tune_command settings.now cells.now hp.now (option_copied lp.entry)) limits.now.packets
-        (S.meaning station.old) (S.meaning station.new) result }
+    ensures { Run (tune_command settings.now files.entry.cells.now files.entry.hp.now (option_copied files.entry.lp))
+        limits.now.packets (S.meaning station.old) (S.meaning station.new) result }
 {
     reception::laws::symbols();
     reception::laws::events();
@@ -147,10 +146,7 @@ pub fn tune<'a, R: Threads + Sync, G: Gate, S: Station<'a>>(
     tune_in::more_bytes();
     reception::workers::workers();
     match read_settings(alloc, settings, station) {
-        Ok(accepted) => {
-            let files = ReceptionFiles { cells, hp, lp };
-            tune_accepted(rt, gate, alloc, &accepted, files, station)
-        }
+        Ok(accepted) => tune_accepted(rt, gate, alloc, &accepted, files, station),
         Err(refusal) => refuse(&refusal, station),
     }
 }

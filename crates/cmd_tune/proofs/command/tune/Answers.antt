@@ -10,7 +10,7 @@ pub tune_accepted-requires : goal.tune_accepted-requires
 tune_accepted-requires g c =
     let old : Meaning = g.S.Station.meaning c.args.station.now in
     let mid : Meaning = g.S.Station.meaning c.read_settings.new.station in
-    let lp : Option (List ℕ) = option_copied c.args.lp in
+    let lp : Option (List ℕ) = option_copied c.args.files.lp in
     let laws : Laws = record {
       receptions = plain_laws c.existence.ensures.live c.existence.ensures.last c.receptions.ensures.live c.receptions.ensures.last c.beginnings.ensures.live c.beginnings.ensures.last c.beginnings.ensures.whole c.symbols.ensures.tail c.nothing.ensures.live c.events.ensures.none;
       one = c.one_found.ensures;
@@ -27,7 +27,7 @@ tune_accepted-requires g c =
         record { shared = c.type_bounds.sync-G.shared },
         (
           (refl, tt),
-          ready c.args.limits.now.packets c.args.settings.now c.args.cells.now c.args.hp.now lp old mid mid laws c.requires.fresh c.in-Ok.ensures.asks c.in-Ok.accepted c.in-Ok.ensures.reads,
+          ready c.args.limits.now.packets c.args.settings.now c.args.files.cells.now c.args.files.hp.now lp old mid mid laws c.requires.fresh c.in-Ok.ensures.asks c.in-Ok.accepted c.in-Ok.ensures.reads,
         ),
       ),
     )
@@ -37,7 +37,7 @@ returns-in-Ok g c =
     let old : Meaning = g.S.Station.meaning c.args.station.now in
     let mid : Meaning = g.S.Station.meaning c.read_settings.new.station in
     let new : Meaning = g.S.Station.meaning c.tune_accepted.new.station in
-    let lp : Option (List ℕ) = option_copied c.args.lp in
+    let lp : Option (List ℕ) = option_copied c.args.files.lp in
     let laws : Laws = record {
       receptions = plain_laws c.existence.ensures.live c.existence.ensures.last c.receptions.ensures.live c.receptions.ensures.last c.beginnings.ensures.live c.beginnings.ensures.last c.beginnings.ensures.whole c.symbols.ensures.tail c.nothing.ensures.live c.events.ensures.none;
       one = c.one_found.ensures;
@@ -48,7 +48,7 @@ returns-in-Ok g c =
       final = c.workers.ensures.last;
       lines = c.workers.ensures.lines;
     } in
-    run c.args.limits.now.packets c.args.settings.now c.args.cells.now c.args.hp.now lp old mid new laws c.requires.fresh c.in-Ok.ensures.asks
+    run c.args.limits.now.packets c.args.settings.now c.args.files.cells.now c.args.files.hp.now lp old mid new laws c.requires.fresh c.in-Ok.ensures.asks
     c.in-Ok.accepted c.in-Ok.ensures.reads c.tune_accepted.result c.tune_accepted.ensures
 
 pub returns-in-Err : goal.returns-in-Err
@@ -56,7 +56,7 @@ returns-in-Err g c =
     let old : Meaning = g.S.Station.meaning c.args.station.now in
     let mid : Meaning = g.S.Station.meaning c.read_settings.new.station in
     let new : Meaning = g.S.Station.meaning c.refuse.new.station in
-    let lp : Option (List ℕ) = option_copied c.args.lp in
+    let lp : Option (List ℕ) = option_copied c.args.files.lp in
     let laws : Laws = record {
       receptions = plain_laws c.existence.ensures.live c.existence.ensures.last c.receptions.ensures.live c.receptions.ensures.last c.beginnings.ensures.live c.beginnings.ensures.last c.beginnings.ensures.whole c.symbols.ensures.tail c.nothing.ensures.live c.events.ensures.none;
       one = c.one_found.ensures;
@@ -67,5 +67,5 @@ returns-in-Err g c =
       final = c.workers.ensures.last;
       lines = c.workers.ensures.lines;
     } in
-    refused c.args.limits.now.packets c.args.settings.now c.args.cells.now c.args.hp.now lp old mid new laws c.requires.fresh c.in-Err.ensures.asks
+    refused c.args.limits.now.packets c.args.settings.now c.args.files.cells.now c.args.files.hp.now lp old mid new laws c.requires.fresh c.in-Err.ensures.asks
     c.in-Err.refusal c.in-Err.ensures.reads c.refuse.result c.refuse.ensures.status c.refuse.ensures.text

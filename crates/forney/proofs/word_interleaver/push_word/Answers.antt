@@ -12,4 +12,4 @@ pub returns-clause-taken : goal.returns-clause-taken
 returns-clause-taken c = λ j l.
     put_taken _ c.copy_within.new.self c.copy_from_slice.new.self j (omega (arith, c.copy_within.ensures.len, c.requires.window))
     (omega (arith, c.copy_from_slice.ensures.len, c.copy_within.ensures.len, c.requires.window)) l
-    ∙ ap (λ xs. slice_index xs j) c.copy_from_slice.ensures.next_branch
+    ∙ ap (λ xs. slice_index xs j) c.copy_from_slice.ensures.after
