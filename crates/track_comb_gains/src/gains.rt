@@ -4,7 +4,7 @@ ghost use Rattle.std.specs.Prelude.{nat_abs, pos};
 ghost use Rattle.spec_words.specs.Words.{numbers};
 ghost use Rattle.mode_set.specs.declared.modes.Guard.{Guard};
 ghost use Rattle.tracking.specs.Comb.{comb_of, points, turned_value};
-ghost use Rattle.tracking.specs.InTime.{distance, gain_by, place, point_gain, symbol_at};
+ghost use Rattle.tracking.specs.InTime.{counting, distance, gain_by, place, point_gain, symbol_at};
 ghost use Rattle.tracking.specs.Moving.{motion as motion_at};
 ghost use Rattle.track_motion.specs.Around.{IsAround, IsLook};
 ghost use Rattle.track_motion.specs.Places.{in_file};
@@ -16,7 +16,7 @@ ghost use Rattle.track_arithmetic.specs.Numbers.{nothing, scaled, sum_of};
 ghost use Rattle.track_cells.specs.Gains.{gain_of, AreWithin};
 ghost use Rattle.track_cells.specs.Sizes.{size_to};
 
-use crate::taps::{counting, taps};
+use crate::taps::{all_counting, taps};
 use mode_set::Carriers;
 use track_arithmetic::{Complex, near};
 use track_motion::{Surroundings, turned_value};
@@ -90,33 +90,31 @@ fn distance(m: u64, j: usize) -> usize
     ((m % 4) as usize + 3 * j) % 4
 }
 
-// The gain at point `j`.
+// The gain at point `j`, where those that count at each distance are the bits of a number.
 fn point_gain<M: Carriers>(
     window: &PilotWindow<M>,
     m: u64,
     around: &Surroundings,
     motion: Motion,
+    counts: &[usize; 4],
     j: usize,
 ) -> Complex
     requires there { m < window.now.count }
     requires late { window.now.count ≤ m + 8 }
     requires few { window.now.count ≤ 2 ^ 32 }
     requires look { IsLook window.now.count m around.now }
+    requires counts { (d : ℕ) → d < 4 → get_or counts.now d 0 < 16 }
+    requires counts_there { (d i : ℕ) → d < 4 → i < 4 → has (get_or counts.now d 0) i ≡ true
+        → in_file window.now.count m (place d i) ≡ true }
     requires point { j < points M.MODE }
     ensures is { (symbols : List (List Cell)) (guard : Guard) → StandsFor M.MODE window.now symbols
-        → IsAround (comb_of M.MODE symbols) m around.now → motion ≡ motion_at guard (comb_of M.MODE symbols) m → result
+        → IsAround (comb_of M.MODE symbols) m around.now → ((d : ℕ) → d < 4 → counting (comb_of M.MODE symbols) m d ≡
+        places_of d (get_or counts.now d 0)) → motion ≡ motion_at guard (comb_of M.MODE symbols) m → result
         ≡ point_gain guard (comb_of M.MODE symbols) m j }
     ensures within { IsWithin (2 ^ 21) result }
 {
     let d = distance(m, j);
-    let sum = weighted(
-        window,
-        m,
-        around,
-        taps(motion, d, counting(around, d)),
-        d,
-        j,
-    );
+    let sum = weighted(window, m, around, taps(motion, d, counts[d]), d, j);
     near(sum, 22)
 }
 
@@ -139,7 +137,8 @@ pub fn point_gains<M: Carriers>(
         → j < points M.MODE → gain_of gains.new j ≡ point_gain guard (comb_of M.MODE symbols) m j }
     ensures within { AreWithin (2 ^ 21) gains.new }
 {
+    let counts = all_counting(around);
     for j in 0..gains.len() {
-        gains[j] = point_gain(window, m, around, motion, j);
+        gains[j] = point_gain(window, m, around, motion, &counts, j);
     }
 }

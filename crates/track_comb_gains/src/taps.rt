@@ -31,7 +31,7 @@ fn flags(places: &[bool; 16], d: usize) -> usize
 }
 
 // The symbols that count at a distance: the good ones, or all that are there if none is good.
-pub(crate) fn counting(around: &Surroundings, d: usize) -> usize
+fn counting(around: &Surroundings, d: usize) -> usize
     requires { d < 4 }
     ensures is { (c : Comb) (m : ℕ) → IsAround c m around.now → counting c m d ≡ places_of d result }
     ensures there { (count m i : ℕ) → IsLook count m around.now → i < 4 → has result i ≡ true
@@ -44,6 +44,21 @@ pub(crate) fn counting(around: &Surroundings, d: usize) -> usize
     } else {
         good
     }
+}
+
+// The same for each distance.
+pub(crate) fn all_counting(around: &Surroundings) -> [usize; 4]
+    ensures is { (c : Comb) (m d : ℕ) → IsAround c m around.now → d < 4 → counting c m d
+        ≡ places_of d (get_or result d 0) }
+    ensures there { (count m d i : ℕ) → IsLook count m around.now → d < 4 → i < 4 → has (get_or result d 0) i ≡ true
+        → in_file count m (place d i) ≡ true }
+    ensures few { (d : ℕ) → d < 4 → get_or result d 0 < 16 }
+{
+    let mut counts = [0; 4];
+    for d in 0..4 {
+        counts[d] = counting(around, d);
+    }
+    counts
 }
 
 // The table of a motion.

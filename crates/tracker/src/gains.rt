@@ -20,34 +20,22 @@ use track_motion::Surroundings;
 use track_pilots::PilotWindow;
 use tracking::Motion;
 
-// The gain at each carrier of symbol `m`, by that at its comb points.
+// The gain at each carrier, by those at the comb points.
 fn carrier_gains<M: Carriers>(
     guard: Guard,
-    window: &PilotWindow<M>,
-    m: u64,
-    around: &Surroundings,
-    motion: Motion,
-    gains: &mut [Complex],
+    gains: &[Complex],
     centred: &mut [Complex],
     to: &mut [Complex],
 )
-    requires there { m < window.now.count }
-    requires late { window.now.count ≤ m + 8 }
-    requires few { window.now.count ≤ 2 ^ 32 }
-    requires look { IsLook window.now.count m around.now }
-    requires gains { length gains.old ≡ points M.MODE }
+    requires gains { length gains.now ≡ points M.MODE }
+    requires within { AreWithin (2 ^ 21) gains.now }
     requires centred { length centred.old ≡ points M.MODE }
     requires carriers { length to.old ≡ carriers M.MODE }
-    ensures gains { length gains.new ≡ points M.MODE }
     ensures centred { length centred.new ≡ points M.MODE }
     ensures carriers { length to.new ≡ carriers M.MODE }
-    ensures is { (symbols : List (List Cell)) (k : ℕ) → StandsFor M.MODE window.now symbols
-        → IsAround (comb_of M.MODE symbols) m around.now → motion ≡ motion_at guard (comb_of M.MODE symbols) m
-        → k < carriers M.MODE → gain_of to.new k ≡ carrier_gain guard M.MODE (point_gain guard (comb_of M.MODE symbols)
-        m) k }
+    ensures is { (k : ℕ) → k < carriers M.MODE → gain_of to.new k ≡ carrier_gain guard M.MODE (gain_of gains.now) k }
     ensures within { AreWithin (2 ^ 25) to.new }
 {
-    point_gains(window, m, around, motion, gains);
     interpolate(guard, M::MODE, gains, centred, to);
 }
 
@@ -108,16 +96,8 @@ impl<M: Carriers> GainRoom<M> {
             (comb_of M.MODE symbols) m) k }
         ensures within { AreWithin (2 ^ 25) self.new }
     {
-        carrier_gains(
-            guard,
-            window,
-            m,
-            around,
-            motion,
-            &mut self.points,
-            &mut self.centred,
-            &mut self.all,
-        );
+        point_gains(window, m, around, motion, &mut self.points);
+        carrier_gains::<M>(guard, &self.points, &mut self.centred, &mut self.all);
     }
 
     /// The gains.

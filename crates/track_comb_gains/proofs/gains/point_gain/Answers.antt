@@ -10,15 +10,15 @@ use Rattle.track_comb_gains.proofs.gains.point_gain.Goals as goal
 pub weighted-sum-requires-clause-in_file : goal.weighted-sum-requires-clause-in_file
 weighted-sum-requires-clause-in_file g c = λ i lt some.
     let d = c.distance-d.result in
-    let n = c.counting.result in
+    let n = get_or c.args.counts.now d 0 in
     let at : get_or c.taps.result.now i (pos 0) ≡ kept_tap c.args.motion d n i = ap (λ (z : List ℤ). get_or z i (pos 0)) c.taps.ensures.is ∙ entry (kept_tap c.args.motion d n) 4 i (pos 0) lt in
-    c.counting.ensures.there c.args.window.now.count c.args.m i c.requires.look lt (tap_counts c.args.motion d n i (λ e. some (at ∙ e)))
+    c.requires.counts_there d i c.distance-d.ensures.few lt (tap_counts c.args.motion d n i (λ e. some (at ∙ e)))
 
 pub returns-clause-is : goal.returns-clause-is
-returns-clause-is g c = λ symbols guard h a em.
+returns-clause-is g c = λ symbols guard h a ec em.
     let comb = comb_of g.M.Carriers.MODE symbols in
-    gain_is comb guard c.args.m c.args.j c.args.motion c.distance-d.result c.counting.result c.taps.result.now c.weighted-sum.result c.near.result c.distance-d.ensures.is em
-    (c.counting.ensures.is comb c.args.m a) c.taps.ensures.is (c.weighted-sum.ensures.is symbols h a) c.near.ensures.is
+    gain_is comb guard c.args.m c.args.j c.args.motion c.distance-d.result (get_or c.args.counts.now c.distance-d.result 0) c.taps.result.now c.weighted-sum.result c.near.result c.distance-d.ensures.is em
+    (ec c.distance-d.result c.distance-d.ensures.few) c.taps.ensures.is (c.weighted-sum.ensures.is symbols h a) c.near.ensures.is
 
 pub returns-clause-within : goal.returns-clause-within
 returns-clause-within g c =

@@ -9,6 +9,9 @@ use Rattle.track_arithmetic.specs.Numbers.{nothing}
 use Rattle.track_arithmetic.specs.declared.complex.Complex.{Complex}
 use Rattle.track_comb_gains.proofs.gains.point_gains.Goals as goal
 
+pub point_gain-requires-clause-counts_there : goal.point_gain-requires-clause-counts_there
+point_gain-requires-clause-counts_there g c = λ d i few lt set. c.all_counting-counts.ensures.there c.args.window.now.count c.args.m d i c.requires.look few lt set
+
 pub loop-j-preserved : goal.loop-j-preserved
 loop-j-preserved g c =
     let i = c.loop-j.invariant in
@@ -20,6 +23,6 @@ loop-j-preserved g c =
       long = length-set old j v ∙ i.long;
       is = λ symbols guard k h around is lt.
           set_below (λ (q : ℕ) (x : Complex). x ≡ point_gain guard (comb_of g.M.Carriers.MODE symbols) c.args.m q) nothing old j v few
-          (λ q less. i.is symbols guard q h around is less) (c.point_gain.ensures.is symbols guard h around is) k lt;
+          (λ q less. i.is symbols guard q h around is less) (c.point_gain.ensures.is symbols guard h around (λ d few. c.all_counting-counts.ensures.is (comb_of g.M.Carriers.MODE symbols) c.args.m d around few) is) k lt;
       within = set_below (λ (q : ℕ) (x : Complex). IsWithin (2 ^ 21) x) nothing old j v few i.within c.point_gain.ensures.within;
     }
