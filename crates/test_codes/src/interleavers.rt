@@ -32,11 +32,11 @@ fn four_thousand_bytes(rt: HostRuntime) -> Result<(), Fail> {
 fn words(
     bytes: &mut Interleaver,
     whole: &mut WordInterleaver,
-    number: usize,
+    number: u16,
 ) -> ([u8; 204], [u8; 204]) {
     let mut one = [0; 204];
     for (place, byte) in one.iter_mut().enumerate() {
-        *byte = coded(204 * number + place, 0);
+        *byte = coded(204 * number as usize + place, 0);
     }
     let mut other = one;
     for byte in one.iter_mut() {
@@ -50,9 +50,9 @@ fn words(
 fn whole_words_are_as_their_bytes(rt: HostRuntime) -> Result<(), Fail> {
     let mut bytes = Interleaver::new(rt.alloc())?;
     let mut whole = WordInterleaver::new(rt.alloc())?;
-    for number in 0..30usize {
+    for number in 0..30u16 {
         let (one, other) = words(&mut bytes, &mut whole, number);
-        assert_eq!(rt; one[203], coded(204 * number + 203, 204 * 11));
+        assert_eq!(rt; one[203], coded(204 * number as usize + 203, 204 * 11));
         assert_eq!(rt; one.as_slice(), other.as_slice());
     }
     Ok(())
