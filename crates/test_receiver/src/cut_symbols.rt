@@ -1,5 +1,5 @@
 // Receivers that are fed pieces, with and without a gate. What comes back is what was sent: null packets.
-ghost use Rattle.std.specs.Prelude.{◌≡◌};
+ghost use Rattle.std.specs.Prelude.{◌≡◌, ◌≤◌};
 ghost use Rattle.mode_set.specs.declared.modes.Mode.{Mode};
 
 use crate::sending::{
@@ -144,6 +144,31 @@ fn gated<M: Carriers, R: Threads + Sync>(
     Ok((before, before.saturating_add(last), outer, inner))
 }
 
+// The settings of the 2K mode with so many workers.
+fn by_workers(workers: u8) -> Settings
+    requires some { 1 ≤ workers }
+    requires few { workers ≤ 16 }
+    ensures { result.mode ≡ Mode.M2k }
+{
+    let mut settings = settings(Start::Zero);
+    settings.workers = workers;
+    settings
+}
+
+// What comes through the gate by so many workers.
+fn passed<R: Threads + Sync>(
+    rt: &R,
+    alloc: Global,
+    bytes: &[u8],
+    workers: u8,
+    size: usize,
+) -> Result<Gated, AllocError>
+    requires some { 1 ≤ workers }
+    requires few { workers ≤ 16 }
+{
+    gated::<Mode2k, R>(rt, alloc, &by_workers(workers), bytes, size)
+}
+
 // Whatever the workers and the pieces are, the gate is entered once for each outer word before the end, and by no inner
 // decoder,
 // since there is one stream. A frame of 68 symbols of 1,512 bits has 63 words, of which eleven are the start-up; the
@@ -153,12 +178,9 @@ fn gated<M: Carriers, R: Threads + Sync>(
 fn words_pass_the_gate(rt: HostRuntime) -> Result<(), Fail> {
     let alloc = rt.alloc();
     let bytes = null_symbols(&rt, alloc, 68)?;
-    for (workers, size) in [(1, SYMBOL), (3, 997), (16, 20_000)] {
-        let mut settings = settings(Start::Zero);
-        settings.workers = workers;
-        let given = gated::<Mode2k, _>(&rt, alloc, &settings, &bytes, size)?;
-        assert!(rt; given == (51, 52, 51, 0), "{workers} workers");
-    }
+    assert_eq!(rt; passed(&rt, alloc, &bytes, 1, SYMBOL)?, (51, 52, 51, 0));
+    assert_eq!(rt; passed(&rt, alloc, &bytes, 3, 997)?, (51, 52, 51, 0));
+    assert_eq!(rt; passed(&rt, alloc, &bytes, 16, 20_000)?, (51, 52, 51, 0));
     Ok(())
 }
 
