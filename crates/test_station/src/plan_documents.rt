@@ -4,8 +4,7 @@ pub(super) const PLANS: &str = "\
 == (M2k, Qpsk, Flat, R1of2, None, G1of32, None, Zero, 1, 1000000) (1, Qam16, Alpha4, R1of2, Some(R3of4))\n\
 @\n\
 plan = [{ after = 1, constellation = \"16qam\", hierarchy = \"4\", rate_hp = \"1/2\", rate_lp = \"3/4\" }]\n\
-== (M2k, Qpsk, Flat, R1of2, None, G1of32, None, Zero, 1, 1000000) (3, Qam64, Flat, R7of8, None)
-    (4, Qam64, Flat, R7of8, None)\n\
+== (M2k, Qpsk, Flat, R1of2, None, G1of32, None, Zero, 1, 1000000) (3, Qam64, Flat, R7of8, None) (4, Qam64, Flat, R7of8, None)\n\
 @\n\
 [[plan]]\n\
 rate_hp = \"7/8\"\n\
@@ -17,8 +16,7 @@ after = 4\n\
 constellation = \"64qam\"\n\
 hierarchy = \"none\"\n\
 rate_hp = \"7/8\"\n\
-== (M2k, Qpsk, Flat, R1of2, None, G1of32, None, Zero, 1, 1000000) (4294967294, Qpsk, Flat, R1of2, None)
-    (4294967295, Qam64, Alpha2, R2of3, Some(R5of6))\n\
+== (M2k, Qpsk, Flat, R1of2, None, G1of32, None, Zero, 1, 1000000) (4294967294, Qpsk, Flat, R1of2, None) (4294967295, Qam64, Alpha2, R2of3, Some(R5of6))\n\
 plan = [\n\
 \x20 { after = 4294967294, constellation = \"qpsk\", rate_hp = \"1/2\" },\n\
 \x20 { rate_lp = \"5/6\", rate_hp = \"2/3\", hierarchy = \"2\", constellation = \"64qam\", after = 4294967295 },\n\
