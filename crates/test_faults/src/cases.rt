@@ -12,6 +12,9 @@ const ROOM: u32 = 2_400_000;
 /// status, and the number of bytes of the whole first output and of the whole output of LP.
 pub(crate) type Stands = (u8, usize, (usize, usize));
 
+/// The call is never made: an input that has ended is not read again.
+pub(crate) const UNASKED: Stands = (0, usize::MAX, (usize::MAX, usize::MAX));
+
 /// A command: its arguments, the settings, the two inputs, and the closing lines of its whole run.
 #[derive(Drop)]
 pub(crate) struct Work<'a> {
@@ -88,9 +91,11 @@ fn is_front(part: &[u8], whole: &[u8], count: usize) -> bool {
     part == &whole[..most]
 }
 
-// The text of a status of faults, or of a limit of 32 symbols.
+// The text of a status of faults, or of a limit of 32 symbols. A run that succeeds has none.
 fn text_of(status: u8) -> &'static str {
-    if status == 5 {
+    if status == 0 {
+        ""
+    } else if status == 5 {
         "read fault\n"
     } else if status == 6 {
         "write fault\n"

@@ -1,7 +1,7 @@
 // The command `receive` with one stream and with two, on the first frame of a transmission of forty packets of HP and
 // seventy of LP, and three bytes of its next symbol. The first read returns the header, each other one a symbol. The
 // numbers of packets after the symbols are those of an independent program.
-use crate::cases::{Stands, Work, each_fails, whole};
+use crate::cases::{Stands, UNASKED, Work, each_fails, whole};
 use crate::cells::symbols;
 use station_core::Failing::{Attach, Close, Create, Read, Write};
 use station_core::{Failing, InPort, OutPort};
@@ -121,6 +121,7 @@ fn one_stream(rt: HostRuntime) -> Result<(), Fail> {
         (Read(InPort::Cells, 2), read(0, 0)),
         (Read(InPort::Cells, 31), read(15, 0)),
         (Read(InPort::Cells, 71), read(51, 0)),
+        (Read(InPort::Cells, 72), UNASKED),
         (Write(OutPort::Hp, 1), write(and_half(0), 0)),
         (Write(OutPort::Hp, 31), write(and_half(30), 0)),
         (Write(OutPort::Hp, 52), write(and_half(51), 0)),
@@ -164,6 +165,7 @@ fn two_streams(rt: HostRuntime) -> Result<(), Fail> {
         (Read(InPort::Cells, 2), read(0, 0)),
         (Read(InPort::Cells, 31), read(15, 29)),
         (Read(InPort::Cells, 71), read(51, 83)),
+        (Read(InPort::Cells, 72), UNASKED),
         (Write(OutPort::Hp, 1), write(and_half(0), packets(5))),
         (Write(OutPort::Hp, 31), write(and_half(30), packets(51))),
         (Write(OutPort::Hp, 52), write(and_half(51), packets(83))),

@@ -1,6 +1,6 @@
 // The command `modulate` with one stream and with two: forty packets of HP, and seventy of LP. A super-frame has 272
 // symbols, and the first write is that of the header.
-use crate::cases::{Stands, Work, each_fails, whole};
+use crate::cases::{Stands, UNASKED, Work, each_fails, whole};
 use crate::cells::{and_half, symbols};
 use station_core::Failing::{Attach, Close, Create, Read, Write};
 use station_core::{Failing, InPort, OutPort};
@@ -81,6 +81,7 @@ fn one_stream(rt: HostRuntime) -> Result<(), Fail> {
         (Read(InPort::Hp, 1), read(0)),
         (Read(InPort::Hp, 31), read(32)),
         (Read(InPort::Hp, 41), read(43)),
+        (Read(InPort::Hp, 42), UNASKED),
         (Write(OutPort::Report, 1), behind(10)),
         (Write(OutPort::Report, 2), behind(21 + 7)),
         (Close(OutPort::Cells, 1), behind(35)),
@@ -107,9 +108,11 @@ fn two_streams(rt: HostRuntime) -> Result<(), Fail> {
         (Read(InPort::Hp, 1), read(0)),
         (Read(InPort::Hp, 31), read(32)),
         (Read(InPort::Hp, 41), read(43)),
+        (Read(InPort::Hp, 42), UNASKED),
         (Read(InPort::Lp, 1), read(0)),
         (Read(InPort::Lp, 31), read(21)),
         (Read(InPort::Lp, 71), read(50)),
+        (Read(InPort::Lp, 72), UNASKED),
         (Write(OutPort::Report, 1), behind(10)),
         (Write(OutPort::Report, 2), behind(21 + 10)),
         (Write(OutPort::Report, 3), behind(42 + 7)),

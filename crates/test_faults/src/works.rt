@@ -1,6 +1,6 @@
 // The commands `disperse`, `outer` and `inner` on 33 packets. A read returns one packet, and a write takes the whole
 // bytes for one packet.
-use crate::cases::{Stands, Work, each_fails, whole};
+use crate::cases::{Stands, UNASKED, Work, each_fails, whole};
 use station_core::Failing::{Attach, Close, Create, Read, Write};
 use station_core::{Failing, InPort, OutPort};
 use std::alloc::{AllocError, Global};
@@ -38,13 +38,14 @@ fn behind(lines: usize) -> Stands {
     (6, lines, (usize::MAX, 0))
 }
 
-// The calls that each of the three makes only once, and the last read, with these bytes written after it.
-fn shared(all: usize) -> [(Failing, Stands); 6] {
+// The calls that each of the three makes only once, and the last read, with these bytes written after it, and none more.
+fn shared(all: usize) -> [(Failing, Stands); 7] {
     [
         (Attach(InPort::Hp, 1), read(0)),
         (Create(OutPort::Bytes, 1), write(0)),
         (Read(InPort::Hp, 1), read(0)),
         (Read(InPort::Hp, 34), read(all)),
+        (Read(InPort::Hp, 35), UNASKED),
         (Write(OutPort::Report, 1), behind(10)),
         (Close(OutPort::Bytes, 1), behind(21)),
     ]
