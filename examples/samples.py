@@ -6,11 +6,11 @@ usage: examples/samples.py [--mode 2k|8k] [--guard 1/32|1/16|1/8|1/4] [--kind c6
 
 SAMPLES are complex numbers of two floats of 32 bits (c64), or of two whole numbers of 16 or 8 bits with a sign (i16, i8), least byte first, at
 64/7 MHz in a channel of 8 MHz, 8 MHz in one of 7 MHz, 48/7 MHz in one of 6 MHz. `-` is standard input or output. `cells` finds the
-symbols by their guard interval and the frequency, follows both and the clock of the receiver, and takes the carriers out; it estimates
-nothing of the channel. The cells begin at any symbol: `dvbt monitor`, `align` and `tune` find the super-frame. L is the mean amplitude
-of the pilots over the nominal one: 0.9 suits `equalise`, 0.4 `track`, which works at any level, and leaves room for strong
-carriers. `samples` makes the samples of a receiver whose clock is slow by PPM parts in a million. Without options: 8K, guard 1/32, c64,
-level 0.9, a right clock. Needs numpy (Debian: python3-numpy).
+mode, the guard interval, the symbols and the frequency, follows the last two and the clock of the receiver, and takes the carriers out;
+it estimates nothing of the channel. The cells begin at any symbol: `dvbt monitor`, `align` and `tune` find the super-frame. L is the mean
+amplitude of the pilots over the nominal one: 0.9 suits `equalise`, 0.4 `track`, which works at any level, and leaves room for strong
+carriers. `samples` makes the samples of a receiver whose clock is slow by PPM parts in a million. Without options: c64, level 0.4, a
+right clock; `cells` tells mode and guard interval by the samples, `samples` has 8K and 1/32. Needs numpy (Debian: python3-numpy).
 """
 import os
 import pathlib
@@ -36,6 +36,8 @@ PARTS = 256  # of a sample, for the place of a symbol
 SLOW = 16  # blocks that tell the place and the drift
 LEAST, STRANGE = 0.1, 4  # how alike guard intervals are at least, of 1; blocks in a row until a signal elsewhere is followed
 MOST = 50e-6  # a clock may be wrong by this part
+LOOK = 64 * 8448  # samples that tell mode and guard interval
+POINTS, GUARDS = {"2k": 2048, "8k": 8192}, ("1/32", "1/16", "1/8", "1/4")
 KINDS = {"c64": ("<f4", 1.0), "i16": ("<i2", 6000), "i8": ("i1", 24)}  # type of a part, and the value of the mean amplitude
 PILOT = 21845  # the nominal amplitude of pilots in a cell file
 
@@ -47,8 +49,8 @@ class FrontEnd:
 
     def __init__(self, mode, guard, level):
         self.level = level * PILOT
-        self.points, self.kinds = 2048 if mode == "2k" else 8192, Carriers(mode)
-        self.guard = self.points // int(guard.partition("/")[2])
+        self.points, self.kinds = POINTS[mode], Carriers(mode)
+        self.guard = self.points // int(guard[2:])
         self.symbol = self.points + self.guard
         self.held, self.start, self.drift, self.blocks, self.strange = np.zeros(0, np.complex64), None, 0.0, 0, 0
         self.fraction, self.phase, self.shift, self.scale = 0.0, 0.0, None, None
@@ -64,10 +66,10 @@ class FrontEnd:
 
     def block(self):
         """The cells of a block, from the held samples, which move on by it."""
-        began, end = self.follow(*self.timing(self.held[: (BLOCK + 1) * self.symbol]))
+        began, end = self.follow(*timing(self.held[: (BLOCK + 1) * self.symbol], self.points, self.guard))
         places = began + (end - began) / BLOCK * np.arange(BLOCK)
         first = np.rint(places).astype(int)
-        samples = self.held[first[:, None] + np.arange(self.guard - MARGIN, self.symbol - MARGIN)]
+        samples = np.stack([self.held[at + self.guard - MARGIN : at + self.symbol - MARGIN] for at in first])
         each = -2j * np.pi * self.fraction / self.points
         samples *= np.exp(each * (first[:, None] - first[0]) - 1j * self.phase).astype(np.complex64)
         samples *= np.exp(each * np.arange(self.points)).astype(np.complex64)
@@ -99,25 +101,17 @@ class FrontEnd:
         self.fraction += 0.1 * ((fraction - self.fraction + 0.5) % 1 - 0.5)
         return began, end
 
-    def timing(self, samples):
-        """Where a symbol begins, and the wrong frequency in parts of a carrier: a guard interval is like the end of its symbol, but for
-        the phase that the frequency makes of the way between them."""
-        likeness = samples[: -self.points].conj() * samples[self.points :]
-        sums = np.resize(likeness[: BLOCK * self.symbol], (BLOCK - 1, self.symbol)).sum(axis=0)
-        sums = np.convolve(np.concatenate([sums, sums[: self.guard]]), np.ones(self.guard), "valid")[: self.symbol]
-        start = int(np.argmax(abs(sums)))
-        power = self.guard * (BLOCK - 1) * np.mean(abs(samples) ** 2)
-        return start, np.angle(sums[start]) / (2 * np.pi), abs(sums[start]) / max(power, 1e-30)
-
     def carriers(self, symbols, parts):
         """The cells of symbols, with the parts of a sample by which they begin later turned back, the frequency corrected by whole carriers and
         the level set, both as the first block has them."""
-        points = np.fft.fftshift(np.fft.fft(symbols), axes=1)
-        middle = (self.points - self.kinds.count + 1) // 2
+        points, middle = np.fft.fft(symbols), (self.kinds.count - 1) // 2
         if self.shift is None:
-            likeness = [self.likeness(points, middle + shift) for shift in range(-REACH, REACH + 1)]
+            likeness = [self.likeness(points, shift - middle) for shift in range(-REACH, REACH + 1)]
             self.shift = int(np.argmax(likeness)) - REACH
-        cells = points[:, middle + self.shift : middle + self.shift + self.kinds.count] * self.turns[parts]
+        below = middle - self.shift  # carriers of negative frequencies
+        cells = self.turns[parts]
+        cells[:, :below] *= points[:, -below:]
+        cells[:, below:] *= points[:, : self.kinds.count - below]
         level = np.mean(abs(cells[:, self.kinds.continual]))
         if self.scale is None or not 0.4 < self.scale * level / self.level < 1.4:
             self.scale = self.level / max(level, 1e-9)
@@ -129,25 +123,56 @@ class FrontEnd:
         return abs(np.sum(pilots[1:] * pilots[:-1].conj()))
 
 
+def timing(samples, points, guard):
+    """Where a symbol begins, the wrong frequency in parts of a carrier, and how alike the guard intervals are: each is like the end of its
+    symbol, but for the phase that the frequency makes of the way between them."""
+    symbol = points + guard
+    count = (len(samples) - points) // symbol
+    likeness = samples[: count * symbol].conj() * samples[points : points + count * symbol]
+    sums = likeness.reshape(count, symbol).sum(axis=0)
+    sums = np.cumsum(np.concatenate([[0], sums, sums[:guard]]))
+    sums = sums[guard : guard + symbol] - sums[:symbol]
+    start = int(np.argmax(abs(sums)))
+    power = guard * count * np.vdot(samples, samples).real / len(samples)
+    return start, np.angle(sums[start]) / (2 * np.pi), abs(sums[start]) / max(power, 1e-30)
+
+
+def recognised(samples, mode, guard):
+    """The mode and the guard interval, if not given: those by which the guard intervals of the samples are most alike."""
+    choices = [(it, of) for it in POINTS if mode in (None, it) for of in GUARDS if guard in (None, of)]
+    choices = [(timing(samples, POINTS[it], POINTS[it] // int(of[2:]))[2], it, of) for it, of in choices if len(samples) > 10 * POINTS[it]]
+    alike, mode, guard = max(choices, default=(0, mode, guard))
+    if alike < LEAST:
+        sys.exit("samples.py: no guard interval was found: check --kind and the sample rate, or name --mode and --guard")
+    print(f"samples.py: found {mode.upper()}, guard interval {guard}", file=sys.stderr)
+    return mode, guard
+
+
 def to_cells(mode, guard, level, kind, source, to):
     """Samples to a cell file."""
-    front, part = FrontEnd(mode, guard, level), np.dtype(KINDS[kind][0])
+    part = np.dtype(KINDS[kind][0])
+
+    def read(count):
+        piece = source.read(2 * part.itemsize * count)
+        return np.frombuffer(piece, part, len(piece) // part.itemsize // 2 * 2).astype(np.float32).view(np.complex64)
+
+    samples = read(LOOK)
+    if not (mode and guard):
+        mode, guard = recognised(samples, mode, guard)
+    front = FrontEnd(mode, guard, level)
     to.write(header(mode))
-    while True:
-        piece = source.read(2 * part.itemsize * front.symbol * BLOCK)
-        samples = np.frombuffer(piece, part, len(piece) // part.itemsize // 2 * 2).astype(np.float32).view(np.complex64)
+    while len(samples):
         for cells in front.take(samples):
             to.write(content(cells))
             to.flush()
-        if not piece:
-            return
+        samples = read(front.symbol * BLOCK)
 
 
 def to_samples(mode, guard, clock, kind, source, to):
     """A cell file to samples (docs/use/FILES.md). By a slow clock a symbol is shorter: each begins a part of a sample earlier, and guard intervals
     lack a sample now and then."""
-    points, count = (2048, 1705) if mode == "2k" else (8192, 6817)
-    length = points // int(guard.partition("/")[2])
+    points, count = POINTS[mode], 1705 if mode == "2k" else 6817
+    length = points // int(guard[2:])
     carriers, early = np.arange(count) - (count - 1) // 2, 0.0
     source.read(8)
     while True:
@@ -197,11 +222,13 @@ def check(command, mode, source, to):
 
 
 def main(words):
-    options = {"--mode": "8k", "--guard": "1/32", "--kind": "c64", "--level": "0.9", "--clock": "0"}
+    options = {"--mode": None, "--guard": None, "--kind": "c64", "--level": "0.4", "--clock": "0"}
     while words[:1] and words[0] in options and len(words) > 1:
         options[words[0]], words = words[1], words[2:]
     mode, guard, kind, level, clock = options.values()
-    choices = (mode, ("2k", "8k")), (guard, ("1/32", "1/16", "1/8", "1/4")), (kind, KINDS)
+    if words[:1] == ["samples"]:
+        mode, guard = mode or "8k", guard or "1/32"
+    choices = (mode or "8k", POINTS), (guard or "1/32", GUARDS), (kind, KINDS)
     if len(words) != 3 or words[0] not in ("cells", "samples") or not all(it in some for it, some in choices):
         sys.exit(__doc__.split("\n\n")[1])
     try:
