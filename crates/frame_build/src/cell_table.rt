@@ -3,7 +3,8 @@ ghost use Rattle.std.specs.Prelude.{◌≡◌, ◌^◌, ◌<◌, ◌≤◌, ◌�
 ghost use Rattle.mode_set.specs.StreamTable.{label_bits};
 ghost use Rattle.qam_map.specs.Points.{map_cell};
 ghost use Rattle.frame_build.specs.Symbol.{bits_of, real, sent_bytes};
-ghost use Rattle.frame_build.specs.State.{ArePlaces, AreWider, IsCellTable, IsLabelTable, bytes_sent, other_cells, other_places};
+ghost use Rattle.frame_build.specs.State.{ArePlaces, AreWider, IsCellTable, IsLabelTable, bytes_sent, other_cells};
+ghost use Rattle.frame_build.specs.State.{other_places};
 
 use crate::carrier_content::CarrierContent;
 use crate::five_bytes::cell_bytes;
