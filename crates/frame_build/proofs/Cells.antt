@@ -3,7 +3,8 @@ use Rattle.std.proofs.Common.{◌≡◌, ℕ, zero, suc, ◌+◌, ◌*◌, ◌%�
 use Rattle.std.specs.Prelude.{flat_map, count_by}
 use Rattle.std.proofs.lemmas.List.Concat.{flat_map-append}
 use Rattle.std.proofs.lemmas.List.Sums.{sum_by-append, count_by-le-length}
-use Rattle.std.proofs.lemmas.List.{append-nil, get_or-set_same, get_or-set_other, get_or_append_left, get_or-append-add, get_or-take, length-drop, length-take-le, take_all}
+use Rattle.std.proofs.lemmas.List.{append-nil, get_or-set_same, get_or-set_other, get_or_append_left, get_or-append-add, get_or-take, length-drop, length-take-le, take_all, take-take}
+use Rattle.std.proofs.Math.Seq.{take-append-add}
 use Rattle.std.proofs.lemmas.Slice.{take-put_mid}
 use borrow.Rule.Slice.PartMut.{put_mid, mid_of, same_len_mid}
 use Rattle.std.proofs.lemmas.Bool.{cases_lt}
@@ -27,7 +28,7 @@ use Rattle.qam_map.specs.Points.{map_cell, value_of, real_bits, imaginary_bits}
 use Rattle.tps_word.specs.Tps.{tps_word, signalled}
 use Rattle.frame_build.specs.Symbol.{real, tps_sign, frame_of, cell_of_kind, cell_at, sent_bytes, symbol_bytes, bits_of, Agree}
 use Rattle.frame_build.specs.Announcing.{settings_for, announcing_cell, announcing_bytes}
-use Rattle.frame_build.specs.State.{is_turned, IsLabelTable, IsCellTable, AreSources, AreAllSources, bytes_sent, labels_before, labels_of, other_cells, place_of, source_of}
+use Rattle.frame_build.specs.State.{is_turned, IsLabelTable, IsCellTable, bytes_sent, labels_before, labels_of, other_cells, place_of, source_of}
 use Rattle.frame_build.specs.declared.carrier_content.CarrierContent.{CarrierContent}
 use Rattle.frame_build.specs.declared.carrier_content.CarrierContent.TheVariants.{Label, Pilot, OppositePilot, Signalling, OppositeSignalling}
 
@@ -141,7 +142,7 @@ signal_bytes true false label = refl
 signal_bytes false true label = refl
 signal_bytes false false label = refl
 
-kind_sent : (now next : Settings) (m : ℕ) (turned : Bool) (labels : List ℕ) (k q : ℕ) (kd : CarrierKind) (label : List ℕ) → turned ≡ is_turned (tps_word (signalled next (frame_of m))) (m % 68)
+pub kind_sent : (now next : Settings) (m : ℕ) (turned : Bool) (labels : List ℕ) (k q : ℕ) (kd : CarrierKind) (label : List ℕ) → turned ≡ is_turned (tps_word (signalled next (frame_of m))) (m % 68)
     → (kd ≡ Payload q → label ≡ sent_bytes (map_cell now.shape now.hierarchy (bits_of labels q))) → ((p : ℕ) → kd ≡ Payload p → p ≡ q)
     → bytes_sent (source_of kd (reference k)) turned label ≡ sent_bytes (cell_of_kind (settings_for now next kd) m (bits_of labels) k kd)
 kind_sent now next m turned labels k q Continual label e is same = pilot_bytes (reference k) turned label ∙ ap sent_bytes (pilot now m (bits_of labels) k)
@@ -180,19 +181,6 @@ label_below m n l k next source numbered same few e en is =
     let here : kind m l k ≡ Payload next = is_next_label m l k source e is ∙ ap Payload (sym en) in
     let all : AreNumbered m l = subst (λ (z : Mode). AreNumbered z l) same numbered in
     ((all k next few).0 here).0
-
--- the carriers of a symbol send what those of the symbol at its place among four do
-pub source_at : (m : Mode) (l : ℕ) (lists : List (List CarrierContent)) (k : ℕ) (d : List CarrierContent) (e : CarrierContent) → AreAllSources m lists → k < carriers m → kind m l k ≡ kind m (l % 4) k
-    → get_or (get_or lists (l % 4) d) k e ≡ source_of (kind m l k) (reference k)
-source_at m l lists k d e send few repeats = send (l % 4) d (omega arith) k e few ∙ ap (λ (z : CarrierKind). source_of z (reference k)) (sym repeats)
-
-pub sources_more : (m : Mode) (l : ℕ) (list : List CarrierContent) (n : ℕ) (source : CarrierContent) → AreSources m l list n → n < length list → source ≡ source_of (kind m l n) (reference n) → AreSources m l (set list n source) (n + 1)
-sources_more m l list n source a within is k d less = go (cases_lt k n)
-  where
-    go : (k < n) ⊎ (n ≤ k) → get_or (set list n source) k d ≡ source_of (kind m l k) (reference k)
-    go (inl lt) = let other : k ≢ n = omega (arith, lt) in get_or-set_other list n k source d other ∙ a k d lt
-    go (inr ge) = let same : n ≡ k = omega (arith, less, ge) in
-        subst (λ (z : ℕ). get_or (set list n source) z d ≡ source_of (kind m l z) (reference z)) same (get_or-set_same list n source d within ∙ is)
 
 pub labels_table_more : (s : Shape) (h : Hierarchy) (cells : List (List ℕ)) (n : ℕ) (bytes : List ℕ) → IsLabelTable s h cells n → n < length cells → bytes ≡ sent_bytes (map_cell s h (is_set n)) → IsLabelTable s h (set cells n bytes) (n + 1)
 labels_table_more s h cells n bytes t within is k d less = go (cases_lt k n)
@@ -273,14 +261,6 @@ one_carrier s t m labels n =
 pub whole_symbol : (s t : Settings) (m : ℕ) (labels : ℕ → ℕ → Bool) (n : ℕ) → n ≡ carriers s.mode → carrier_bytes s t m labels n ≡ announcing_bytes s t m labels
 unfolding carrier_bytes announcing_bytes
 whole_symbol s t m labels n e = ap (λ (z : ℕ). flat_map (λ k. sent_bytes (announcing_cell s t m labels k)) (numbers z)) e
-
--- the symbols 0 to 3
-pub all_sources : (m : Mode) (a b c d : List CarrierContent) → AreSources m 0 a (carriers m) → AreSources m 1 b (carriers m) → AreSources m 2 c (carriers m) → AreSources m 3 d (carriers m) → AreAllSources m (a ∷ b ∷ c ∷ d ∷ [])
-all_sources m a b c d sa sb sc sd zero e l = sa
-all_sources m a b c d sa sb sc sd (suc zero) e l = sb
-all_sources m a b c d sa sb sc sd (suc (suc zero)) e l = sc
-all_sources m a b c d sa sb sc sd (suc (suc (suc zero))) e l = sd
-all_sources m a b c d sa sb sc sd (suc (suc (suc (suc i)))) e l = absurd (omega (arith, l))
 
 pub few_carriers : (m : Mode) → carriers m ≤ 6817
 few_carriers M2k = omega arith
@@ -418,4 +398,20 @@ five_put old new p k five size is_five within is =
     let part : length (mid_of (5 * k) five old) ≡ five = length-take-le five (drop (5 * k) old) (omega (arith, left, within, is_five)) in (
       same_len_mid (5 * k) five old new (long ∙ sym is_five ∙ sym part),
       take-put_mid (5 * k) five old new (5 * (k + 1)) (omega (arith, long)) (omega (arith, within)) ∙ ap (λ (z : List ℕ). take (5 * k) old ++ z) is,
+    )
+
+-- eight bytes that are put from a cell on, of which the cell has five
+pub eight_put : (old new p : List ℕ) (k eight : ℕ) → length p ≡ 8 → eight ≡ 8 → 5 * k + 8 ≤ length old → new ≡ p
+    → (length (put_mid (5 * k) eight old new) ≡ length old) × (take (5 * (k + 1)) (put_mid (5 * k) eight old new) ≡ take (5 * k) old ++ take 5 p)
+eight_put old new p k eight size is_eight within is =
+    let left = length-drop (5 * k) old in
+    let long : length new ≡ 8 = ap length is ∙ size in
+    let part : length (mid_of (5 * k) eight old) ≡ eight = length-take-le eight (drop (5 * k) old) (omega (arith, left, within, is_eight)) in
+    let before : length (take (5 * k) old) ≡ 5 * k = length-take-le (5 * k) old (omega (arith, within)) in
+    let shorter : 5 * (k + 1) ≤ 5 * k + 8 = omega arith in
+    let past : 5 * (k + 1) ≡ length (take (5 * k) old) + 5 = omega (arith, before) in (
+      same_len_mid (5 * k) eight old new (long ∙ sym is_eight ∙ sym part),
+      sym (take-take (5 * (k + 1)) (5 * k + 8) (put_mid (5 * k) eight old new) shorter)
+          ∙ ap (take (5 * (k + 1))) (take-put_mid (5 * k) eight old new (5 * k + 8) (omega (arith, long)) (omega (arith, within)) ∙ ap (λ (z : List ℕ). take (5 * k) old ++ z) is)
+          ∙ ap (λ (z : ℕ). take z (take (5 * k) old ++ p)) past ∙ take-append-add (take (5 * k) old) p 5,
     )

@@ -1,3 +1,4 @@
 pub mod Cells
+mod Indices
 pub mod Parts
 pub mod ReadBack

@@ -1,9 +1,9 @@
 -- The state of a symbol builder.
 use Rattle.std.specs.Prelude.{◌≡◌, ◌≢◌, ℕ, zero, suc, ◌≤◌, ◌<◌, Bool, false, if◌then◌else◌, List, [], ◌∷◌, get_or}
-use Rattle.std.specs.Prelude.{length, count_by, not, true, ◌+◌, ◌*◌, ◌^◌}
+use Rattle.std.specs.Prelude.{length, count_by, not, true, take, ◌+◌, ◌*◌, ◌^◌}
 use Rattle.spec_words.specs.Bits.{bit, xor, is_set}
 use Rattle.spec_words.specs.Words.{numbers}
-use Rattle.mode_set.specs.StreamTable.{carriers, label_bits}
+use Rattle.mode_set.specs.StreamTable.{carriers, label_bits, payload}
 use Rattle.mode_set.specs.declared.modes.Mode.{Mode}
 use Rattle.mode_set.specs.declared.modes.Shape.{Shape}
 use Rattle.mode_set.specs.declared.modes.Hierarchy.{Hierarchy}
@@ -53,13 +53,6 @@ labels_of OppositeSignalling = 0
 unfoldable pub labels_before : Mode → ℕ → ℕ → ℕ
 labels_before m l k = count_by (is_payload m l) (numbers k)
 
--- the contents of the first n carriers of symbol l
-abbrev pub AreSources : Mode → ℕ → List CarrierContent → ℕ → Type 0
-AreSources m l list n = (k : ℕ) (d : CarrierContent) → k < n → get_or list k d ≡ source_of (kind m l k) (reference k)
-
-abbrev pub AreAllSources : Mode → List (List CarrierContent) → Type 0
-AreAllSources m lists = (i : ℕ) (d : List CarrierContent) → i < 4 → AreSources m i (get_or lists i d) (carriers m)
-
 -- the bytes for the content of a carrier, given the inversion of the TPS cells and the bytes of a label
 abbrev pub bytes_sent : CarrierContent → Bool → List ℕ → List ℕ
 bytes_sent Label turned label = label
@@ -90,11 +83,38 @@ pub record IsCellTable (s : Shape) (h : Hierarchy) (cells : List (List ℕ)) : T
   pub others : (source : CarrierContent) (turned : Bool) (label d : List ℕ) → source ≢ Label
       → get_or cells (place_of source turned) d ≡ bytes_sent source turned label
 
--- the next symbol of a super-frame, and the contents of the carriers in symbols 0 to 3
-pub record IsReady (m : Mode) (s : Settings) (number : ℕ) (lists : List (List CarrierContent)) : Type 0 where
+-- the index of a carrier's cell: that of its label, or one of the four after all labels of a symbol
+abbrev pub index_of : Mode → CarrierKind → Bool → ℕ
+index_of m Continual opposite = payload m + (if opposite then 1 else 0)
+index_of m Scattered opposite = payload m + (if opposite then 1 else 0)
+index_of m Tps opposite = payload m + (if opposite then 3 else 2)
+index_of m (Payload q) opposite = q
+
+-- the indices of the first n carriers of symbol l
+abbrev pub AreIndices : Mode → ℕ → List ℕ → ℕ → Type 0
+AreIndices m l list n = (k d : ℕ) → k < n → get_or list k d ≡ index_of m (kind m l k) (reference k)
+
+abbrev pub AreAllIndices : Mode → List (List ℕ) → Type 0
+AreAllIndices m lists = (i : ℕ) (d : List ℕ) → i < 4 → AreIndices m i (get_or lists i d) (carriers m)
+
+-- the places of the four other contents, by index
+abbrev pub other_places : Bool → List ℕ
+other_places turned = if turned then 68 ∷ 69 ∷ 70 ∷ 71 ∷ [] else 64 ∷ 65 ∷ 66 ∷ 67 ∷ []
+
+-- the places in the table of cells, by index: a label is its own, then those of the four other contents
+pub record ArePlaces (m : Mode) (turned : Bool) (labels places : List ℕ) : Type 0 where
+  pub of_labels : (q : ℕ) → q < payload m → get_or places q 0 ≡ get_or labels q 0
+  pub of_others : (c : ℕ) → c < 4 → get_or places (payload m + c) 0 ≡ 64 + c + (if turned then 4 else 0)
+
+-- the first n cells with three bytes more
+abbrev pub AreWider : List (List ℕ) → List (List ℕ) → ℕ → Type 0
+AreWider cells wide n = (i : ℕ) → i < n → take 5 (get_or wide i []) ≡ get_or cells i []
+
+-- the next symbol of a super-frame, and the indices of the carriers' cells in symbols 0 to 3
+pub record IsReady (m : Mode) (s : Settings) (number : ℕ) (lists : List (List ℕ)) : Type 0 where
   pub mode : s.mode ≡ m
   pub within : number < 272
-  pub send : AreAllSources m lists
+  pub indices : AreAllIndices m lists
 
 -- a symbol of k carriers that has taken some bytes; once complete, its cells and weights are set
 pub record IsTaking (k filled : ℕ) (bytes : List ℕ) (cells : List Cell) (weights : List ℕ) : Type 0 where

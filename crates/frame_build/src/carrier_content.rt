@@ -3,7 +3,7 @@ ghost use Rattle.std.specs.Prelude.{◌≡◌, ◌≢◌, ◌+◌, ◌<◌};
 ghost use Rattle.mode_set.specs.StreamTable.{carriers};
 ghost use Rattle.pilots.specs.Carriers.{kind};
 ghost use Rattle.pilots.specs.Reference.{reference};
-ghost use Rattle.frame_build.specs.State.{AreSources, labels_of, place_of, source_of};
+ghost use Rattle.frame_build.specs.State.{AreIndices, index_of, labels_of, place_of, source_of};
 
 use mode_set::Carriers;
 use pilots::{CarrierKind, kind, reference};
@@ -43,7 +43,7 @@ impl CarrierContent {
 }
 
 // What carrier `k` of symbol `l` sends.
-fn source_at<M: Carriers>(l: u8, k: u32) -> CarrierContent
+pub(crate) fn source_at<M: Carriers>(l: u8, k: u32) -> CarrierContent
     requires symbol { l < 68 }
     requires carrier { k < M.K }
     ensures { result ≡ source_of (kind M.MODE l k) (reference k) }
@@ -68,14 +68,29 @@ fn source_at<M: Carriers>(l: u8, k: u32) -> CarrierContent
     }
 }
 
-// What the carriers of symbol `l` send.
-pub(crate) fn sources<M: Carriers>(l: u8) -> [CarrierContent; 6817]
-    requires { l < 68 }
-    ensures { AreSources M.MODE l result (carriers M.MODE) }
+// The index of the cell of carrier `k` of symbol `l`: the number of its label, or one of the four after all labels.
+fn index_at<M: Carriers>(l: u8, k: u32) -> u16
+    requires symbol { l < 68 }
+    requires carrier { k < M.K }
+    ensures { result ≡ index_of M.MODE (kind M.MODE l k) (reference k) }
 {
-    let mut sources = [CarrierContent::Label; 6817];
+    let opposite = reference(k) as u32;
+    let index = match kind(M::MODE, l, k) {
+        CarrierKind::Continual | CarrierKind::Scattered => M::NMAX + opposite,
+        CarrierKind::Tps => M::NMAX + 2 + opposite,
+        CarrierKind::Payload(number) => number,
+    };
+    index as u16
+}
+
+// The indices of the cells of symbol `l`.
+pub(crate) fn indices<M: Carriers>(l: u8) -> [u16; 6817]
+    requires { l < 68 }
+    ensures { AreIndices M.MODE l result (carriers M.MODE) }
+{
+    let mut indices = [0; 6817];
     for k in 0..M::K {
-        sources[k as usize] = source_at::<M>(l, k);
+        indices[k as usize] = index_at::<M>(l, k);
     }
-    sources
+    indices
 }

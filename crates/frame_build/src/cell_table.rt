@@ -1,13 +1,14 @@
 // The bytes of the cells that carriers send: those of all labels of a constellation, and the others.
-ghost use Rattle.std.specs.Prelude.{◌≡◌, ◌^◌, ◌<◌, ◌≤◌, ◌⊎◌, ℕ, pos, get_or, length};
+ghost use Rattle.std.specs.Prelude.{◌≡◌, ◌^◌, ◌<◌, ◌≤◌, ◌⊎◌, ℕ, [], pos, get_or, length, take};
 ghost use Rattle.mode_set.specs.StreamTable.{label_bits};
 ghost use Rattle.qam_map.specs.Points.{map_cell};
 ghost use Rattle.frame_build.specs.Symbol.{bits_of, real, sent_bytes};
-ghost use Rattle.frame_build.specs.State.{IsCellTable, IsLabelTable, bytes_sent, other_cells};
+ghost use Rattle.frame_build.specs.State.{ArePlaces, AreWider, IsCellTable, IsLabelTable, bytes_sent, other_cells};
+ghost use Rattle.frame_build.specs.State.{other_places};
 
 use crate::carrier_content::CarrierContent;
 use crate::five_bytes::cell_bytes;
-use mode_set::{Hierarchy, Shape};
+use mode_set::{Carriers, Hierarchy, Shape};
 use qam_map::{Cell, map};
 
 fn on_real_axis(value: i16, opposite: bool) -> Cell
@@ -79,6 +80,47 @@ fn all_cells(shape: Shape, hierarchy: Hierarchy) -> [[u8; 5]; 72]
     cells
 }
 
+// Five bytes and three zeros.
+fn eight_of(five: [u8; 5]) -> [u8; 8]
+    ensures { take 5 result ≡ five }
+{
+    [five[0], five[1], five[2], five[3], five[4], 0, 0, 0]
+}
+
+// The cells in eight bytes each, as a processor copies them at once.
+fn widened(cells: &[[u8; 5]; 72]) -> [[u8; 8]; 72]
+    ensures { AreWider cells.now result 72 }
+{
+    let mut wide = [[0; 8]; 72];
+    for place in 0..72 {
+        wide[place] = eight_of(cells[place]);
+    }
+    wide
+}
+
+// The places of the cells that belong to no label, by their indices.
+fn other_places(turned: bool) -> [u8; 4]
+    ensures { result ≡ other_places turned }
+{
+    if turned {
+        [68, 69, 70, 71]
+    } else {
+        [64, 65, 66, 67]
+    }
+}
+
+// The places of the cells by their indices: a label's is the label, then come the four other contents.
+pub(crate) fn places<M: Carriers>(labels: &[u8], turned: bool) -> [u8; 6052]
+    requires count { length labels.now ≡ M.NMAX }
+    ensures { ArePlaces M.MODE turned labels.now result }
+{
+    let mut places = [0; 6052];
+    let number = labels.len();
+    places[..number].copy_from_slice(labels);
+    places[number..number + 4].copy_from_slice(&other_places(turned));
+    places
+}
+
 // The bytes of all cells that a carrier may send, for the constellation of the symbol that was sent last. A
 // carrier's cell is found by an index, with no jump by what the carrier sends.
 #[derive(Drop)]
@@ -86,7 +128,9 @@ pub(crate) struct CellTable {
     pub shape: Shape,
     pub hierarchy: Hierarchy,
     cells: [[u8; 5]; 72],
+    wide: [[u8; 8]; 72],
     ghost table: { IsCellTable shape hierarchy cells },
+    ghost wider: { AreWider cells wide 72 },
 }
 
 impl CellTable {
@@ -94,10 +138,12 @@ impl CellTable {
         ensures shape { result.shape ≡ shape }
         ensures hierarchy { result.hierarchy ≡ hierarchy }
     {
+        let cells = all_cells(shape, hierarchy);
         CellTable {
             shape,
             hierarchy,
-            cells: all_cells(shape, hierarchy),
+            cells,
+            wide: widened(&cells),
         }
     }
 
@@ -133,5 +179,23 @@ impl CellTable {
             | CarrierContent::OppositeSignalling => source.place(turned),
         };
         self.cells[place]
+    }
+
+    // The cell of an index, whose bytes are the first five.
+    pub(crate) fn wide(&self, places: &[u8; 6052], index: usize) -> [u8; 8]
+        requires index { index < 6052 }
+        requires place { get_or places.now index 0 < 72 }
+        ensures { take 5 result ≡ get_or self.now.cells (get_or places.now index 0) [] }
+    {
+        self.wide[places[index] as usize]
+    }
+
+    // The bytes of the cell of an index.
+    pub(crate) fn five(&self, places: &[u8; 6052], index: usize) -> [u8; 5]
+        requires index { index < 6052 }
+        requires place { get_or places.now index 0 < 72 }
+        ensures { result ≡ get_or self.now.cells (get_or places.now index 0) [] }
+    {
+        self.cells[places[index] as usize]
     }
 }

@@ -40,3 +40,13 @@ pub(crate) fn put_five(bytes: [u8; 5], to: &mut [u8], k: usize)
 {
     to[5 * k..5 * k + 5].copy_from_slice(&bytes);
 }
+
+// Puts eight bytes from the first of cell `k` on, of which the first five are its own. The other three belong to the
+// cell after it, which is put next.
+pub(crate) fn put_eight(bytes: [u8; 8], to: &mut [u8], k: usize)
+    requires room { 5 * k + 8 ≤ length to.old }
+    ensures long { length to.new ≡ length to.old }
+    ensures bytes { take (5 * (k + 1)) to.new ≡ take (5 * k) to.old ++ take 5 bytes }
+{
+    to[5 * k..5 * k + 8].copy_from_slice(&bytes);
+}

@@ -7,26 +7,15 @@ ghost use Rattle.pilots.specs.Reference.{reference};
 ghost use Rattle.tps_word.specs.Tps.{signalled, tps_word};
 ghost use Rattle.frame_build.specs.Symbol.{bits_of, frame_of};
 ghost use Rattle.frame_build.specs.Announcing.{announcing_bytes};
-ghost use Rattle.frame_build.specs.State.{AreAllSources, AreSources, is_turned, source_of};
+ghost use Rattle.frame_build.specs.State.{AreAllIndices, AreIndices, is_turned};
 
-use crate::carrier_content::{CarrierContent, sources};
-use crate::cell_table::CellTable;
-use crate::five_bytes::{push_five, put_five};
+use crate::carrier_content::{indices, source_at};
+use crate::cell_table::{CellTable, places};
+use crate::five_bytes::{push_five, put_eight, put_five};
 use mode_set::{Carriers, Entry, Settings};
 use pilots::{kinds_repeat, payload_carriers_are_numbered};
 use std::marker::{Model, PhantomData};
 use tps_word::TpsWord;
-
-// What carrier `k` of symbol `l` sends, which is what it sends in the symbol at its place among four.
-fn source<M: Carriers>(sources: &[[CarrierContent; 6817]; 4], l: u8, k: u32) -> CarrierContent
-    requires symbol { l < 68 }
-    requires carrier { k < M.K }
-    requires send { AreAllSources M.MODE sources.now }
-    ensures { result ≡ source_of (kind M.MODE l k) (reference k) }
-{
-    kinds_repeat(M::MODE, l);
-    sources[(l % 4) as usize][k as usize]
-}
 
 // Whether the bits before symbol `number` in the TPS word of its frame turn the sign of the TPS cells.
 fn turned_at(settings: &Settings, number: u16) -> bool
@@ -42,13 +31,12 @@ fn turned_at(settings: &Settings, number: u16) -> bool
 }
 
 // Appends symbol `number` of a super-frame: its payload carriers carry the labels, and its TPS cells
-// announce the settings of the next super-frame.
+// announce the settings of the next super-frame. The plain program: it finds out what each carrier sends.
 fn push_symbol<M: Carriers>(
     settings: &Settings,
     next: &Settings,
     number: u16,
     label_cells: &CellTable,
-    sources: &[[CarrierContent; 6817]; 4],
     labels: &[u8],
     to: &mut Vec<u8>,
 )
@@ -56,7 +44,6 @@ fn push_symbol<M: Carriers>(
     requires number { number < 272 }
     requires shape { label_cells.now.shape ≡ settings.now.shape }
     requires hierarchy { label_cells.now.hierarchy ≡ settings.now.hierarchy }
-    requires send { AreAllSources M.MODE sources.now }
     requires count { length labels.now ≡ M.NMAX }
     requires small { (q : ℕ) → q < M.NMAX → get_or labels.now q 0 < 2 ^ label_bits settings.now.shape }
     requires spare { vec_len to.old + 5 * M.K ≤ vec_capacity to.old }
@@ -69,29 +56,29 @@ fn push_symbol<M: Carriers>(
     let turned = turned_at(next, number);
     let mut sent = 0;
     for k in 0..M::K {
-        let source = source::<M>(sources, l, k);
+        let source = source_at::<M>(l, k);
         push_five(label_cells.bytes(source, turned, labels, sent), to);
         sent = source.after(sent);
     }
 }
 
-// What the carriers of symbol `l` send, which is what those of the symbol at its place among four do.
-fn sources_of<M: Carriers>(sources: &[[CarrierContent; 6817]; 4], l: u8) -> &[CarrierContent; 6817]
+// The indices of the cells of symbol `l`, which are those of the symbol at its place among four.
+fn indices_of<M: Carriers>(indices: &[[u16; 6817]; 4], l: u8) -> &[u16; 6817]
     requires symbol { l < 68 }
-    requires send { AreAllSources M.MODE sources.now }
-    ensures { AreSources M.MODE l result.now (carriers M.MODE) }
+    requires indices { AreAllIndices M.MODE indices.now }
+    ensures { AreIndices M.MODE l result.now (carriers M.MODE) }
 {
     kinds_repeat(M::MODE, l);
-    &sources[(l % 4) as usize]
+    &indices[(l % 4) as usize]
 }
 
-// Writes symbol `number` of a super-frame over a slice of its length. `sources` is what its carriers send.
+// Writes symbol `number` of a super-frame over a slice of its length. `indices` are those of its cells.
 fn put_symbol<M: Carriers>(
     settings: &Settings,
     next: &Settings,
     number: u16,
     label_cells: &CellTable,
-    sources: &[CarrierContent; 6817],
+    indices: &[u16; 6817],
     labels: &[u8],
     to: &mut [u8],
 )
@@ -99,20 +86,19 @@ fn put_symbol<M: Carriers>(
     requires number { number < 272 }
     requires shape { label_cells.now.shape ≡ settings.now.shape }
     requires hierarchy { label_cells.now.hierarchy ≡ settings.now.hierarchy }
-    requires send { AreSources M.MODE (number % 68) sources.now (carriers M.MODE) }
+    requires indices { AreIndices M.MODE (number % 68) indices.now (carriers M.MODE) }
     requires count { length labels.now ≡ M.NMAX }
     requires small { (q : ℕ) → q < M.NMAX → get_or labels.now q 0 < 2 ^ label_bits settings.now.shape }
     requires long { length to.old ≡ 5 * M.K }
     ensures bytes { to.new ≡ announcing_bytes settings.now next.now number (bits_of labels.now) }
 {
     payload_carriers_are_numbered(M::MODE, (number % 68) as u8);
-    let turned = turned_at(next, number);
-    let mut sent = 0;
-    for k in 0..M::K as usize {
-        let source = sources[k];
-        put_five(label_cells.bytes(source, turned, labels, sent), to, k);
-        sent = source.after(sent);
+    let places = places::<M>(labels, turned_at(next, number));
+    let last = M::K as usize - 1;
+    for k in 0..last {
+        put_eight(label_cells.wide(&places, indices[k] as usize), to, k);
     }
+    put_five(label_cells.five(&places, indices[last] as usize), to, last);
 }
 
 /// Builds the symbols of a transmission one after another: labels on the payload carriers, pilots and
@@ -125,8 +111,8 @@ pub struct SymbolOut<M: Carriers> {
     settings: Settings,
     number: u16,
     label_cells: CellTable,
-    // What the carriers of the symbols 0 to 3 send, which the others repeat.
-    sources: [[CarrierContent; 6817]; 4],
+    // The indices of the cells of the symbols 0 to 3, which the others repeat.
+    indices: [[u16; 6817]; 4],
     of: PhantomData<M>,
 }
 
@@ -137,7 +123,7 @@ impl<M: Carriers> Model for SymbolOut<M> {
 
     ghost view = { λ o. record { settings = o.settings; number = o.number } };
 
-    ghost invariant = { λ o. IsReady M.MODE o.settings o.number o.sources };
+    ghost invariant = { λ o. IsReady M.MODE o.settings o.number o.indices };
 }
 
 impl<M: Carriers> SymbolOut<M> {
@@ -151,11 +137,11 @@ impl<M: Carriers> SymbolOut<M> {
             settings: *settings,
             number: 0,
             label_cells: CellTable::new(settings.shape, settings.hierarchy),
-            sources: [
-                sources::<M>(0),
-                sources::<M>(1),
-                sources::<M>(2),
-                sources::<M>(3),
+            indices: [
+                indices::<M>(0),
+                indices::<M>(1),
+                indices::<M>(2),
+                indices::<M>(3),
             ],
             of: PhantomData,
         }
@@ -184,7 +170,6 @@ impl<M: Carriers> SymbolOut<M> {
             &coming,
             self.number,
             &self.label_cells,
-            &self.sources,
             labels,
             to,
         );
@@ -210,7 +195,7 @@ impl<M: Carriers> SymbolOut<M> {
             &announced,
             self.number,
             &self.label_cells,
-            sources_of::<M>(&self.sources, (self.number % 68) as u8),
+            indices_of::<M>(&self.indices, (self.number % 68) as u8),
             labels,
             to,
         );

@@ -17,7 +17,7 @@ loop-k-init g c =
 pub bytes-requires-clause-next : goal.bytes-requires-clause-next
 bytes-requires-clause-next g c = λ is.
     let few : c.loop-k.k < carriers g.M.Carriers.MODE = omega (arith, g.M.Carriers.k_of, c.K-k-end.ensures) in
-    omega (arith, label_below g.M.Carriers.MODE _ _ c.loop-k.k c.loop-k.sent c.source-source.result c.payload_carriers_are_numbered.ensures c.MODE.ensures few c.source-source.ensures c.loop-k.invariant.labels is, c.requires.count, g.M.Carriers.nmax_of)
+    omega (arith, label_below g.M.Carriers.MODE _ _ c.loop-k.k c.loop-k.sent c.source_at-source.result c.payload_carriers_are_numbered.ensures c.MODE.ensures few c.source_at-source.ensures c.loop-k.invariant.labels is, c.requires.count, g.M.Carriers.nmax_of)
 
 pub after-sent-requires : goal.after-sent-requires
 after-sent-requires g c =
@@ -33,15 +33,15 @@ loop-k-preserved g c =
     let old = c.args.to.now.items in
     let inv = c.loop-k.invariant in
     let label : List ℕ = sent_bytes (map_cell s.shape s.hierarchy (bits_of labels c.loop-k.sent)) in
-    let cell = c.bytes.ensures ∙ ap₂ (λ (x : Shape) (y : Hierarchy). bytes_sent c.source-source.result c.turned_at-turned.result (sent_bytes (map_cell x y (bits_of labels c.loop-k.sent)))) c.requires.shape c.requires.hierarchy
-    ∙ carrier_sent g.M.Carriers.MODE s t m (m % 68) c.turned_at-turned.result labels k c.loop-k.sent c.source-source.result label c.requires.mode refl c.turned_at-turned.ensures c.source-source.ensures inv.labels refl in
+    let cell = c.bytes.ensures ∙ ap₂ (λ (x : Shape) (y : Hierarchy). bytes_sent c.source_at-source.result c.turned_at-turned.result (sent_bytes (map_cell x y (bits_of labels c.loop-k.sent)))) c.requires.shape c.requires.hierarchy
+    ∙ carrier_sent g.M.Carriers.MODE s t m (m % 68) c.turned_at-turned.result labels k c.loop-k.sent c.source_at-source.result label c.requires.mode refl c.turned_at-turned.ensures c.source_at-source.ensures inv.labels refl in
     record {
       bytes =
           c.push_five.ensures.bytes ∙ ap (λ (z : List ℕ). z ++ c.bytes.result) inv.bytes ∙ append_assoc old (carrier_bytes s t m (bits_of labels) k) c.bytes.result
           ∙ ap (λ (z : List ℕ). old ++ (carrier_bytes s t m (bits_of labels) k ++ z)) cell ∙ ap (λ (z : List ℕ). old ++ z) (sym (one_carrier s t m (bits_of labels) k));
       long = omega (arith, c.push_five.ensures.len, inv.long);
       room = c.push_five.ensures.capacity ∙ inv.room;
-      labels = c.after-sent.ensures ∙ ap (λ (z : ℕ). z + labels_of c.source-source.result) inv.labels ∙ sym (labels_more g.M.Carriers.MODE (m % 68) k c.source-source.result c.source-source.ensures);
+      labels = c.after-sent.ensures ∙ ap (λ (z : ℕ). z + labels_of c.source_at-source.result) inv.labels ∙ sym (labels_more g.M.Carriers.MODE (m % 68) k c.source_at-source.result c.source_at-source.ensures);
     }
 
 pub returns-clause-bytes : goal.returns-clause-bytes
