@@ -1,5 +1,6 @@
 -- Weighted sums of the parts of points.
-use Rattle.std.specs.Prelude.{◌≡◌, ℕ, zero, suc, ◌+◌, ◌*◌, ◌%◌, ◌^◌, ◌<◌, ◌≤◌, List, get_or, ℤ, pos, nat_abs, ◌+ℤ◌, ◌*ℤ◌}
+use Rattle.std.specs.Prelude.{◌≡◌, ℕ, zero, suc, ◌+◌, ◌*◌, ◌%◌, ◌^◌, ◌<◌, ◌≤◌, List, get_or, ℤ, pos, nat_abs, ◌+ℤ◌}
+use Rattle.std.specs.Prelude.{◌*ℤ◌}
 use Rattle.mode_set.specs.declared.modes.Guard.{Guard}
 use Rattle.tracking.specs.InFrequency.{slope}
 use Rattle.track_arithmetic.specs.Numbers.{cosine, floor}

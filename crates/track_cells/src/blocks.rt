@@ -1,5 +1,6 @@
 // The gains of 192 inner carriers at once. Their 64 points begin five before their own, so that three rows of
-// coefficients serve all of them. The parts of the points stand apart, so that sums of neighbours are computed in lanes.
+// coefficients serve all of them. The parts of the points stand apart, so that sums of neighbours are computed in
+// lanes.
 ghost use Rattle.std.specs.Prelude.{◌≡◌, ℕ, ◌+◌, ◌*◌, ◌<◌, ◌≤◌, ◌^◌, [], length, get_or, nat_abs, pos, ◌+ℤ◌, ◌*ℤ◌};
 ghost use Rattle.tracking.specs.InFrequency.{frequency_row};
 ghost use Rattle.track_arithmetic.specs.Numbers.{floor};
