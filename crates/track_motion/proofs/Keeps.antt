@@ -1,12 +1,12 @@
 -- The kept changes after one symbol more.
-use Rattle.std.proofs.Common.{◌≡◌, ℕ, zero, suc, [], ◌∷◌, refl, ◌+◌, ◌-◌, ◌%◌, ◌<◌, ◌≤◌, ◌^◌, List, length, get_or, set, ap, sym, ◌∙◌, subst, arith, inl, inr}
+use Rattle.std.proofs.Common.{◌≡◌, ℕ, zero, suc, [], ◌∷◌, refl, ◌+◌, ◌%◌, ◌<◌, ◌≤◌, ◌^◌, List, length, get_or, set, ap, sym, ◌∙◌, subst, arith, inl, inr}
 use Rattle.std.proofs.lemmas.Bool.{cases_lt}
 use Rattle.std.proofs.lemmas.Grind.{get_or-set_at}
 use Rattle.std.proofs.lemmas.List.{get_or-set_other}
 use Rattle.tracking.specs.Comb.{Comb, change}
 use Rattle.tracking.specs.InTime.{symbol_at}
 use Rattle.track_motion.specs.Kept.{AreLow, KeepsBefore, KeepsChanges}
-use Rattle.track_motion.specs.Places.{end_place, first_place, HasChanges}
+use Rattle.track_motion.specs.Places.{HasChanges}
 
 pub low_placed : (kept : List ℕ) (p x : ℕ) → length kept ≡ 16 → p < 16 → AreLow kept → x ≤ 2 ^ 44 → AreLow (set kept p x)
 low_placed kept p x long few low most k lt = elim (cases_lt k p) [

@@ -1,18 +1,17 @@
 -- The points at one distance more.
-use Rattle.std.proofs.Common.{◌≡◌, ℕ, ◌+◌, ◌*◌, ◌%◌, ◌<◌, ◌≤◌, ◌^◌, List, length, get_or, refl, ap, sym, ◌∙◌, subst, arith, inl, inr}
+use Rattle.std.proofs.Common.{◌≡◌, ℕ, ◌%◌, ◌<◌, ◌^◌, List, get_or, ap, sym, ◌∙◌, subst, arith, inl, inr}
 use Rattle.std.specs.Prelude.{ℤ, pos, true}
 use Rattle.std.proofs.lemmas.Bool.{cases_lt}
-use Rattle.tracking.specs.Comb.{comb_of, turn, turned_value}
-use Rattle.tracking.specs.InTime.{distance, place, point_gain, symbol_at}
+use Rattle.tracking.specs.Comb.{comb_of, turn}
+use Rattle.tracking.specs.InTime.{distance, place, symbol_at}
 use Rattle.spec_words.specs.Words.{numbers}
 use Rattle.track_arithmetic.specs.Laws.{IsWithin}
-use Rattle.track_arithmetic.specs.Numbers.{near, nothing, scaled, sum_of, times}
-use Rattle.track_arithmetic.specs.declared.complex.Complex.{Complex}
+use Rattle.track_arithmetic.specs.Numbers.{nothing, sum_of, times}
 use Rattle.track_motion.proofs.Tests.{count_of, there_is}
 use Rattle.track_motion.specs.Places.{in_file}
 use Rattle.track_cells.specs.Gains.{gain_of}
 use Rattle.track_cells.proofs.Tables.{entry}
-use Rattle.track_comb_gains.specs.Kept.{has, kept_tap}
+use Rattle.track_comb_gains.specs.Kept.{kept_tap}
 use Rattle.track_comb_gains.proofs.Shares.{gain_is, shares_are, tap_counts}
 use Rattle.track_comb_gains.proofs.gains.point_gains.Goals as goal
 

@@ -1,5 +1,5 @@
 -- One symbol more.
-use Rattle.std.proofs.Common.{◌≡◌, ℕ, ◌+◌, ◌*◌, ◌^◌, ◌<◌, ◌≤◌, get_or, refl, ap, sym, ◌∙◌, arith}
+use Rattle.std.proofs.Common.{ℕ, ◌+◌, ◌*◌, ◌^◌, ◌<◌, get_or, refl, ap, sym, ◌∙◌, arith}
 use Rattle.std.specs.Prelude.{pos, nat_abs}
 use Rattle.spec_words.specs.Words.{numbers}
 use Rattle.tracking.specs.Comb.{comb_of}

@@ -1,5 +1,5 @@
 -- Zeros are low.
-use Rattle.std.proofs.Common.{◌≡◌, ◌≤◌, arith}
+use Rattle.std.proofs.Common.{arith}
 use Rattle.track_motion.proofs.Keeps.{at_zeros}
 use Rattle.track_motion.proofs.changes.no_changes.Goals as goal
 

@@ -1,5 +1,5 @@
 -- The change of the last symbol is kept, and the others stay.
-use Rattle.std.proofs.Common.{◌≡◌, ℕ, ◌+◌, ◌-◌, ◌%◌, ◌<◌, ◌≤◌, length, sym, ◌∙◌, arith}
+use Rattle.std.proofs.Common.{◌≡◌, ◌-◌, ◌%◌, sym, ◌∙◌, arith}
 use Rattle.tracking.specs.Comb.{comb_of}
 use Rattle.track_motion.proofs.Keeps.{low_placed, none_new, one_kept}
 use Rattle.track_motion.proofs.Tests.{count_of}

@@ -1,9 +1,7 @@
 -- The parts of what is seen are those of the definitions.
-use Rattle.std.proofs.Common.{◌≡◌, ℕ, ◌+◌, ◌*◌, ◌<◌, ◌≤◌, Bool, false, true, not, nat_le, nat_lt, get_or, ap, sym, ◌∙◌, arith}
-use Rattle.std.specs.Prelude.{◌&&◌}
+use Rattle.std.proofs.Common.{◌≡◌, ℕ, ◌<◌, ap, sym, ◌∙◌, arith}
 use Rattle.tracking.specs.Comb.{comb_of}
-use Rattle.tracking.specs.InTime.{is_there}
-use Rattle.track_motion.specs.Places.{in_file, first_place, end_place}
+use Rattle.track_motion.specs.Places.{in_file, end_place}
 use Rattle.track_motion.proofs.Tests.{count_of, there_is}
 use Rattle.track_motion.proofs.Looks.{good_is, same_file}
 use Rattle.track_motion.proofs.surroundings.look_by.Goals as goal
