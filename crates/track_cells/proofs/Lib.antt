@@ -5,3 +5,4 @@ pub mod Centred
 pub mod Corrected
 pub mod Digits
 pub mod Placed
+pub mod Weighing

@@ -1,5 +1,5 @@
 // Interpolation in frequency.
-ghost use Rattle.std.specs.Prelude.{◌≡◌, ℕ, ◌+◌, ◌*◌, ◌-◌, ◌/◌, ◌<◌, ◌≤◌, ◌^◌, length, get_or, pos};
+ghost use Rattle.std.specs.Prelude.{◌≡◌, ℕ, ◌+◌, ◌*◌, ◌-◌, ◌/◌, ◌<◌, ◌≤◌, ◌^◌, [], length, get_or, nat_abs, pos};
 ghost use Rattle.spec_words.specs.Words.{numbers};
 ghost use Rattle.mode_set.specs.StreamTable.{carriers};
 ghost use Rattle.tracking.specs.Comb.{points};
@@ -9,10 +9,11 @@ ghost use Rattle.track_arithmetic.specs.Numbers.{near, scaled, sum_of, times, tu
 ghost use Rattle.track_arithmetic.specs.declared.complex.Complex.{Complex as Gain};
 ghost use Rattle.track_cells.specs.Gains.{gain_of, AreCentred, AreGains, AreSmall, AreWithin};
 ghost use Rattle.track_cells.specs.Sizes.{size_to};
+ghost use Rattle.track_cells.specs.Weighed.{pair, pair_at, part_at, AreBack};
 
-use crate::blocks::weighted_block;
+use crate::blocks::{imaginary_parts, real_parts, weighed_rows};
 use crate::rows::row;
-use crate::turns::turned_by;
+use crate::turns::{cosines_back, turned_by};
 use mode_set::{Guard, Mode};
 use track_arithmetic::{Complex, near};
 
@@ -120,38 +121,98 @@ pub(crate) fn put_each(
     }
 }
 
-// The gains of the twelve carriers from 15 + 12 b on.
-fn put_block(guard: Guard, mode: Mode, centred: &[Complex], b: usize, to: &mut [Complex])
-    requires long { length centred.now ≡ points mode }
-    requires centred { AreWithin (2 ^ 22) centred.now }
-    requires block { 4 * b + 15 ≤ points mode }
-    requires carriers { length to.old ≡ carriers mode }
-    ensures carriers { length to.new ≡ carriers mode }
-    ensures is { (gains : ℕ → Gain) → AreCentred guard mode gains centred.now
-        → AreGains guard mode gains (15 + 12 * b) to.old → AreGains guard mode gains (15 + 12 * b + 12) to.new }
-    ensures within { AreSmall (15 + 12 * b) to.old → AreSmall (15 + 12 * b + 12) to.new }
+// A gain, given by its parts, turned by a direction.
+fn turned(re: i32, im: i32, cosine: i16, sine: i16) -> Complex
+    requires re { nat_abs re ≤ 2 ^ 24 }
+    requires im { nat_abs im ≤ 2 ^ 24 }
+    requires cosine { nat_abs cosine ≤ 2 ^ 14 }
+    requires sine { nat_abs sine ≤ 2 ^ 14 }
+    ensures is { result ≡ near 14 (times (pair re im) (pair cosine sine)) }
+    ensures within { IsWithin (2 ^ 25) result }
 {
-    let sums = weighted_block(guard, &centred[4 * b..4 * b + 15]);
-    let slope = slope(guard);
-    for i in 0..12 {
-        let k = 15 + 12 * b + i;
-        to[k] = turn(near(sums[i % 3][i / 3], 14), 63 * (k as u32 * slope));
+    let gain = Complex {
+        re: i64::from(re),
+        im: i64::from(im),
+    };
+    let direction = Complex {
+        re: i64::from(cosine),
+        im: i64::from(sine),
+    };
+    near(gain.times(direction), 14)
+}
+
+// The gains of the three carriers from `k` on, by place `n` of the rows of a block.
+fn put_three(
+    re: &[[i32; 64]; 3],
+    im: &[[i32; 64]; 3],
+    cosines: &[i16; 192],
+    sines: &[i16; 192],
+    n: usize,
+    k: usize,
+    to: &mut [Complex],
+)
+    requires re { (r : ℕ) → r < 3 → nat_abs (part_at (get_or re.now r []) n) ≤ 2 ^ 24 }
+    requires im { (r : ℕ) → r < 3 → nat_abs (part_at (get_or im.now r []) n) ≤ 2 ^ 24 }
+    requires cosines { (j : ℕ) → j < 192 → nat_abs (part_at cosines.now j) ≤ 2 ^ 14 }
+    requires sines { (j : ℕ) → j < 192 → nat_abs (part_at sines.now j) ≤ 2 ^ 14 }
+    requires place { n < 64 }
+    requires room { k + 3 ≤ length to.old }
+    ensures long { length to.new ≡ length to.old }
+    ensures before { (j : ℕ) → j < k → gain_of to.new j ≡ gain_of to.old j }
+    ensures is { (r : ℕ) → r < 3 → gain_of to.new (k + r) ≡ near 14 (times (pair_at (get_or re.now r [])
+        (get_or im.now r []) n) (pair_at cosines.now sines.now (3 * n + r))) }
+    ensures within { (r : ℕ) → r < 3 → IsWithin (2 ^ 25) (gain_of to.new (k + r)) }
+{
+    for r in 0..3 {
+        let j = 3 * n + r;
+        to[k + r] = turned(re[r][n], im[r][n], cosines[j], sines[j]);
     }
 }
 
-// The gains of all carriers below `15 + 12 n` by those of the first 15.
+// The gains of the 192 carriers from 15 + 192 b on.
+fn put_block(
+    guard: Guard,
+    mode: Mode,
+    centred: &[Complex],
+    b: usize,
+    cosines: &[i16; 192],
+    sines: &[i16; 192],
+    to: &mut [Complex],
+)
+    requires long { length centred.now ≡ points mode }
+    requires centred { AreWithin (2 ^ 22) centred.now }
+    requires block { 64 * b + 75 ≤ points mode }
+    requires cosines { AreBack guard 0 cosines.now }
+    requires sines { AreBack guard 48 sines.now }
+    requires carriers { length to.old ≡ carriers mode }
+    ensures carriers { length to.new ≡ carriers mode }
+    ensures is { (gains : ℕ → Gain) → AreCentred guard mode gains centred.now
+        → AreGains guard mode gains (15 + 192 * b) to.old → AreGains guard mode gains (15 + 192 * b + 192) to.new }
+    ensures within { AreSmall (15 + 192 * b) to.old → AreSmall (15 + 192 * b + 192) to.new }
+{
+    let points = &centred[64 * b..64 * b + 75];
+    let re = weighed_rows(guard, &real_parts(points));
+    let im = weighed_rows(guard, &imaginary_parts(points));
+    for n in 0..64 {
+        put_three(&re, &im, cosines, sines, n, 15 + 192 * b + 3 * n, to);
+    }
+}
+
+// The gains of all carriers below `15 + 192 n` by those of the first 15.
 fn put_blocks(guard: Guard, mode: Mode, centred: &[Complex], n: usize, to: &mut [Complex])
     requires long { length centred.now ≡ points mode }
     requires centred { AreWithin (2 ^ 22) centred.now }
-    requires blocks { 4 * n + 11 ≤ points mode }
+    requires blocks { 64 * n + 11 ≤ points mode }
     requires carriers { length to.old ≡ carriers mode }
     ensures carriers { length to.new ≡ carriers mode }
     ensures is { (gains : ℕ → Gain) → AreCentred guard mode gains centred.now → AreGains guard mode gains 15 to.old
-        → AreGains guard mode gains (15 + 12 * n) to.new }
-    ensures within { AreSmall 15 to.old → AreSmall (15 + 12 * n) to.new }
+        → AreGains guard mode gains (15 + 192 * n) to.new }
+    ensures within { AreSmall 15 to.old → AreSmall (15 + 192 * n) to.new }
 {
+    let cosines = cosines_back(slope(guard), 0);
+    let sines = cosines_back(slope(guard), 48);
     for b in 0..n {
-        put_block(guard, mode, centred, b, to);
+        put_block(guard, mode, centred, b, &cosines, &sines, to);
     }
 }
 
@@ -175,8 +236,8 @@ pub fn interpolate(
     ensures within { AreWithin (2 ^ 25) to.new }
 {
     centre(guard, gains, centred);
-    let n = (centred.len() - 11) / 4;
+    let n = (centred.len() - 11) / 64;
     put_each(guard, mode, centred, 0, 15, to);
     put_blocks(guard, mode, centred, n, to);
-    put_each(guard, mode, centred, 15 + 12 * n, to.len(), to);
+    put_each(guard, mode, centred, 15 + 192 * n, to.len(), to);
 }

@@ -1,8 +1,9 @@
 // Directions by sixty-fourths of a turn.
-ghost use Rattle.std.specs.Prelude.{◌≡◌, ◌+◌, ◌%◌, ◌<◌, ◌≤◌, ◌^◌, map, nat_abs};
+ghost use Rattle.std.specs.Prelude.{◌≡◌, ℕ, ◌+◌, ◌*◌, ◌%◌, ◌<◌, ◌≤◌, ◌^◌, map, nat_abs};
 ghost use Rattle.spec_words.specs.Words.{numbers};
 ghost use Rattle.track_arithmetic.specs.Laws.{IsWithin};
 ghost use Rattle.track_arithmetic.specs.Numbers.{cosine, turned_by};
+ghost use Rattle.track_cells.specs.Weighed.{part_at};
 
 use track_arithmetic::Complex;
 
@@ -42,4 +43,28 @@ pub(crate) fn turned_by(i: u32) -> Complex
         re: cosine(i % 64),
         im: cosine((i + 48) % 64),
     }
+}
+
+// The cosine in 16 bits.
+fn short_cosine(i: u32) -> i16
+    requires { i < 64 }
+    ensures is { result ≡ cosine i }
+    ensures within { nat_abs result ≤ 2 ^ 14 }
+{
+    cosine(i) as i16
+}
+
+// The cosines of the turns back of the 192 carriers from carrier 15 on, each `ahead` sixty-fourths further. They
+// repeat each 192 carriers.
+pub(crate) fn cosines_back(slope: u32, ahead: u32) -> [i16; 192]
+    requires slope { slope ≤ 8 }
+    requires ahead { ahead < 64 }
+    ensures is { (j : ℕ) → j < 192 → part_at result j ≡ cosine ((63 * ((15 + j) * slope) + ahead) % 64) }
+    ensures within { (j : ℕ) → j < 192 → nat_abs (part_at result j) ≤ 2 ^ 14 }
+{
+    let mut back = [0i16; 192];
+    for j in 0..192 {
+        back[j] = short_cosine((63 * ((15 + j as u32) * slope) + ahead) % 64);
+    }
+    back
 }

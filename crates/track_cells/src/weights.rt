@@ -59,5 +59,10 @@ pub(crate) fn shared_weight(w: u8, old: u8) -> u8
     requires { w ≤ 15 }
     ensures { result ≡ shared_weight w old }
 {
-    ((2 * (u32::from(w) * u32::from(old.min(15))) + 15) / 30) as u8
+    let old = old.min(15);
+    // Most carriers keep theirs whole.
+    if w == 15 {
+        return old;
+    }
+    ((2 * (u32::from(w) * u32::from(old)) + 15) / 30) as u8
 }

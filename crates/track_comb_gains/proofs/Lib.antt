@@ -1,3 +1,4 @@
 pub mod TapTables
 pub mod PlacesOfBits
 pub mod Shares
+pub mod Fourths

@@ -5,6 +5,7 @@
 #![tactic(auto)]
 
 mod gains;
+pub mod plain;
 mod tables;
 mod taps;
 

@@ -1,4 +1,5 @@
 pub mod Steps
+pub mod Keeps
 pub mod Tests
 pub mod Lesser
 pub mod Middles

@@ -3,6 +3,7 @@ ghost use Rattle.std.specs.Prelude.{◌≡◌, ℕ, ◌+◌, ◌-◌, ◌*◌, �
 ghost use Rattle.tracking.specs.BadSymbols.{lesser_change, middle};
 ghost use Rattle.tracking.specs.Comb.{change, comb_of, Comb};
 ghost use Rattle.tracking.specs.InTime.{symbol_at};
+ghost use Rattle.track_motion.specs.Kept.{AreLow, KeepsBefore, KeepsChanges};
 ghost use Rattle.track_motion.specs.Places.{end_place, first_place, in_file, HasChanges, HasLesser};
 ghost use Rattle.track_pilots.specs.Window.{StandsFor};
 ghost use Rattle.qam_map.specs.declared.cell.Cell.{Cell};
@@ -55,6 +56,43 @@ pub(crate) fn changes<M: Carriers>(window: &PilotWindow<M>, m: u64) -> [u64; 16]
     let mut changes = [0; 16];
     for p in 0..16 {
         changes[p] = change_at(window, m, p);
+    }
+    changes
+}
+
+/// Room for the changes of sixteen symbols, none of which is kept yet.
+pub fn no_changes() -> [u64; 16]
+    ensures { AreLow result }
+{
+    [0; 16]
+}
+
+/// Keeps the change of the last symbol of the window from the one before it, as that of symbol t at place t modulo 16.
+/// The other fifteen places stay.
+pub fn push_change<M: Carriers>(window: &PilotWindow<M>, kept: &mut [u64; 16])
+    requires some { 1 ≤ window.now.count }
+    requires small { AreLow kept.old }
+    ensures small { AreLow kept.new }
+    ensures keeps { (symbols : List (List Cell)) → StandsFor M.MODE window.now symbols
+        → KeepsBefore (comb_of M.MODE symbols) kept.old → KeepsChanges (comb_of M.MODE symbols) kept.new }
+{
+    let last = window.count() - 1;
+    if last == 0 {
+        return;
+    }
+    kept[(last % 16) as usize] = change(window, last);
+}
+
+/// The kept changes of the symbols around symbol m by their places.
+pub(crate) fn changes_by(m: u64, kept: &[u64; 16]) -> [u64; 16]
+    requires few { m < 2 ^ 32 }
+    requires small { AreLow kept.now }
+    ensures are { (c : Comb) → KeepsChanges c kept.now → m < c.count → c.count ≤ m + 8 → HasChanges c m result }
+    ensures most { (p : ℕ) → p < 16 → get_or result p 0 ≤ 2 ^ 44 }
+{
+    let mut changes = [0; 16];
+    for p in 0..16 {
+        changes[p] = kept[((m + p as u64 + 9) % 16) as usize];
     }
     changes
 }

@@ -9,6 +9,7 @@ mod motions;
 mod residues;
 mod surroundings;
 
+pub use changes::{no_changes, push_change};
 pub use motions::{motion, noise};
 pub use residues::{Residues, follow, turned_value};
-pub use surroundings::{Surroundings, is_seen, look};
+pub use surroundings::{Surroundings, is_seen, look, look_by};

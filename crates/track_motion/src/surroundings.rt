@@ -6,13 +6,14 @@ ghost use Rattle.tracking.specs.Comb.{comb_of, turn, Comb};
 ghost use Rattle.tracking.specs.InTime.{is_good, is_there, symbol_at};
 ghost use Rattle.tracking.specs.Moving.{is_seen};
 ghost use Rattle.track_motion.specs.Around.{IsAround, IsLook};
+ghost use Rattle.track_motion.specs.Kept.{AreLow, KeepsChanges};
 ghost use Rattle.track_motion.specs.Places.{end_place, first_place, in_file, HasLesser};
 ghost use Rattle.track_pilots.specs.Window.{StandsFor};
 ghost use Rattle.qam_map.specs.declared.cell.Cell.{Cell};
 ghost use Rattle.track_arithmetic.specs.Laws.{IsWithin};
 ghost use Rattle.track_arithmetic.specs.Numbers.{nothing};
 
-use crate::changes::{changes, end_place, first_place, lesser_changes, middle_change};
+use crate::changes::{changes, changes_by, end_place, first_place, lesser_changes, middle_change};
 use mode_set::Carriers;
 use track_arithmetic::Complex;
 use track_pilots::PilotWindow;
@@ -100,6 +101,28 @@ pub fn look<M: Carriers>(window: &PilotWindow<M>, m: u64) -> Surroundings
     let first = first_place(m);
     let end = end_place(window.count(), m);
     let lesser = lesser_changes(&changes(window, m), first, end);
+    let middle = middle_change(&lesser, first, end);
+    Surroundings {
+        there: are_there(first, end),
+        good: are_good(&lesser, middle, first, end),
+        turns: turns(window, m),
+        middle,
+    }
+}
+
+/// The same by the kept changes of the symbols.
+pub fn look_by<M: Carriers>(window: &PilotWindow<M>, m: u64, kept: &[u64; 16]) -> Surroundings
+    requires there { m < window.now.count }
+    requires late { window.now.count ≤ m + 8 }
+    requires few { window.now.count ≤ 2 ^ 32 }
+    requires small { AreLow kept.now }
+    ensures looks { IsLook window.now.count m result }
+    ensures are { (symbols : List (List Cell)) → StandsFor M.MODE window.now symbols
+        → KeepsChanges (comb_of M.MODE symbols) kept.now → IsAround (comb_of M.MODE symbols) m result }
+{
+    let first = first_place(m);
+    let end = end_place(window.count(), m);
+    let lesser = lesser_changes(&changes_by(m, kept), first, end);
     let middle = middle_change(&lesser, first, end);
     Surroundings {
         there: are_there(first, end),

@@ -1,5 +1,5 @@
 -- One symbol more changes nothing of the running means before it.
-use Rattle.std.proofs.Common.{◌≡◌, ℕ, zero, suc, ◌-◌, List, [], ◌∷◌, ◌++◌, length, get_or, map, refl, ap, sym, ◌∙◌, arith, length-append}
+use Rattle.std.proofs.Common.{◌≡◌, ℕ, zero, suc, ◌+◌, ◌-◌, List, [], ◌∷◌, ◌++◌, length, get_or, map, refl, ap, sym, ◌∙◌, arith, length-append}
 use Rattle.std.specs.Prelude.{Option}
 use Rattle.std.proofs.lemmas.List.{get_or_append_left, length-map, map-append}
 use Rattle.mode_set.specs.declared.settings.Settings.{Settings}
@@ -9,7 +9,8 @@ use Rattle.tracking.specs.Moving.{mean_residue}
 use Rattle.tracking.specs.Tracking.{Symbol, comb}
 use Rattle.tracking.specs.declared.motion.Motion.{Motion}
 use Rattle.tracking.specs.declared.motion.Motion.TheVariants.{Slow, Fast}
-use Rattle.tracking.proofs.Live.{Agree, same_mean}
+use Rattle.tracking.proofs.Live.{Agree, same_change, same_mean}
+use Rattle.track_motion.specs.Kept.{KeepsBefore, KeepsChanges}
 use Rattle.track_motion.specs.Means.{AreMeans}
 use Rattle.track_motion.specs.declared.residues.Residues.{Residues}
 
@@ -38,3 +39,16 @@ same s symbols x (suc m) f e = sym (same_mean (comb s (symbols ++ x ∷ [])) (co
 
 pub means_stay : (s : Settings) (symbols : List Symbol) (x : Symbol) (given : ℕ) (means : Option Residues) → given ≡ length symbols - 7 → AreMeans (comb s symbols) (given - 1) means → AreMeans (comb s (symbols ++ x ∷ [])) (given - 1) means
 means_stay s symbols x given means e are = record { slow = are.slow ∙ same s symbols x given Slow e; fast = are.fast ∙ same s symbols x given Fast e }
+
+-- nor of the changes
+pub changes_stay : (s : Settings) (symbols : List Symbol) (x : Symbol) (kept : List ℕ) → KeepsChanges (comb s symbols) kept → KeepsBefore (comb s (symbols ++ x ∷ [])) kept
+unfolding comb_of
+changes_stay s symbols x kept keeps =
+    let all = symbols ++ x ∷ [] in
+    let f = λ (z : Symbol). z.cells in
+    let long : length (map f all) ≡ length symbols + 1 = length-map all f ∙ length-append symbols (x ∷ []) in
+    let number : length (map f symbols) ≡ length symbols = length-map symbols f in
+    record {
+      is = λ t some there late.
+          keeps.is t some (omega (arith, there, long, number)) (omega (arith, late, long, number)) ∙ sym (same_change (comb s all) (comb s symbols) (length symbols) (agree s symbols (x ∷ [])) t (omega (arith, there, long)));
+    }

@@ -5,6 +5,7 @@ use Rattle.mode_set.specs.declared.modes.Mode.{Mode}
 use Rattle.mode_set.specs.declared.settings.Settings.{Settings}
 use Rattle.tracking.specs.Comb.{points}
 use Rattle.tracking.specs.Tracking.{Symbol, comb}
+use Rattle.track_motion.specs.Kept.{AreLow, KeepsChanges}
 use Rattle.track_motion.specs.Means.{AreMeans, AreSmall}
 use Rattle.track_motion.specs.declared.residues.Residues.{Residues}
 use Rattle.track_pilots.specs.Window.{WindowState, StandsFor}
@@ -22,6 +23,7 @@ pub record TrackerState : Type 0 where
   pub window : WindowState
   pub ring : RingState
   pub means : Option Residues
+  pub changes : List ℕ
   pub given : ℕ
   pub ended : Bool
 
@@ -34,9 +36,11 @@ pub record IsTracking (m : Mode) (t : TrackerState) : Type 0 where
   pub going : t.ended ≡ false → t.given ≡ t.window.count - 7
   pub few : t.window.count ≤ 2 ^ 32
   pub small : AreSmall t.means
+  pub low : AreLow t.changes
 
 -- the symbols received
 pub record Tracks (t : TrackerState) (symbols : List Symbol) : Type 0 where
   pub window : StandsFor t.settings.mode t.window (map (λ x. x.cells) symbols)
   pub ring : Keeps (carriers t.settings.mode) t.ring symbols
   pub means : AreMeans (comb t.settings symbols) (t.given - 1) t.means
+  pub changes : KeepsChanges (comb t.settings symbols) t.changes

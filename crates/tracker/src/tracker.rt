@@ -5,12 +5,12 @@ ghost use Rattle.tracking.specs.Tracking.{tracked_bytes, Symbol};
 ghost use Rattle.tracker.specs.Tracks.{Tracks};
 
 use crate::gains::GainRoom;
-use crate::symbol::push_symbol;
+use crate::symbol::{push_symbol, see};
 use mode_set::{Carriers, Settings};
 use qam_map::Cell;
 use std::alloc::{AllocError, Global};
 use std::marker::Model;
-use track_motion::Residues;
+use track_motion::{Residues, no_changes, push_change};
 use track_pilots::PilotWindow;
 use track_ring::SymbolRing;
 
@@ -25,6 +25,8 @@ pub struct Tracker<M: Carriers> {
     window: PilotWindow<M>,
     ring: SymbolRing<M>,
     means: Option<Residues>,
+    // The changes of the last symbols.
+    kept: [u64; 16],
     // The symbols that were given.
     given: u64,
     ended: bool,
@@ -41,6 +43,7 @@ impl<M: Carriers> Model for Tracker<M> {
       window = t.window;
       ring = t.ring;
       means = t.means;
+      changes = t.kept;
       given
           = t.given;
       ended = t.ended;
@@ -52,6 +55,7 @@ impl<M: Carriers> Model for Tracker<M> {
           window = t.window;
           ring = t.ring;
           means = t.means;
+          changes = t.kept;
           given = t.given;
           ended
               = t.ended;
@@ -76,6 +80,7 @@ impl<M: Carriers> Tracker<M> {
             window,
             ring,
             means: None,
+            kept: no_changes(),
             given: 0,
             ended: false,
             room,
@@ -104,18 +109,21 @@ impl<M: Carriers> Tracker<M> {
     {
         self.window.push(cells);
         self.ring.push(cells, weights);
+        push_change(&self.window, &mut self.kept);
         if self.window.count() < 8 {
             return false;
         }
-        self.means = push_symbol(
+        let seen = see(&self.window, self.given, &self.kept, self.means);
+        push_symbol(
             &self.settings,
             &self.window,
             &self.ring,
             self.given,
-            self.means,
+            &seen,
             &mut self.room,
             to,
         );
+        self.means = seen.means;
         self.given += 1;
         true
     }
@@ -151,15 +159,17 @@ impl<M: Carriers> Tracker<M> {
         if self.given == self.window.count() {
             return false;
         }
-        self.means = push_symbol(
+        let seen = see(&self.window, self.given, &self.kept, self.means);
+        push_symbol(
             &self.settings,
             &self.window,
             &self.ring,
             self.given,
-            self.means,
+            &seen,
             &mut self.room,
             to,
         );
+        self.means = seen.means;
         self.given += 1;
         true
     }

@@ -9,26 +9,16 @@ use Rattle.tracker.proofs.Bytes.{all_bytes}
 use Rattle.tracker.proofs.Symbols.{motion_is, gain_is, length_of, middle_in}
 use Rattle.tracker.proofs.symbol.push_symbol.Goals as goal
 
-pub returns-clause-means : goal.returns-clause-means
-returns-clause-means g c = λ symbols h are.
-    let cells = map (λ (x : Symbol). x.cells) symbols in
-    let around = c.look-around.ensures.are cells h in
-    let before = subst (λ (z : Mode). AreMeans (comb_of z cells) (c.args.m - 1) c.args.means) c.requires.mode are in
-    subst (λ (z : Mode). AreMeans (comb_of z cells) c.args.m c.follow-after.result) (sym c.requires.mode) (c.follow-after.ensures.are cells h around before)
-
 pub returns-clause-appended : goal.returns-clause-appended
-returns-clause-appended g c = λ symbols h keeps are.
+returns-clause-appended g c = λ symbols h keeps around after.
     let s = c.args.settings.now in
     let m : Mode = g.M.Carriers.MODE in
     let cells = map (λ (x : Symbol). x.cells) symbols in
-    let around = c.look-around.ensures.are cells h in
-    let before = subst (λ (z : Mode). AreMeans (comb_of z cells) (c.args.m - 1) c.args.means) c.requires.mode are in
-    let after = c.follow-after.ensures.are cells h around before in
-    let motion = c.motion-motion.ensures ∙ motion_is s.guard (comb_of m cells) c.args.m c.follow-after.result after in
+    let motion = c.motion-motion.ensures ∙ motion_is s.guard (comb_of m cells) c.args.m c.args.seen.now.means after in
     let gains = c.gains-gains.result.now in
     let long = c.gains-gains.ensures.long in
     let gain = λ (k : ℕ) (lt : k < carriers m). gain_is s symbols m c.args.m k gains c.find.new.self c.requires.mode c.gains-gains.ensures.is (c.find.ensures.is cells k h around motion lt) in
-    let means = subst (λ (z : Mode). AreMeans (comb_of z cells) c.args.m c.follow-after.result) (sym c.requires.mode) after in
+    let means = subst (λ (z : Mode). AreMeans (comb_of z cells) c.args.m c.args.seen.now.means) (sym c.requires.mode) after in
     let middle = around.middle ∙ middle_in m s.mode cells c.args.m (sym c.requires.mode) in
     let number = c.count.ensures ∙ h.number ∙ length_of symbols in
     let full = c.reference_power-full.ensures.is symbols number means middle gain in

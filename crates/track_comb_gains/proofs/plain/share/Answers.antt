@@ -7,7 +7,7 @@ use Rattle.tracking.specs.Comb.{comb_of, turned_value}
 use Rattle.tracking.specs.InTime.{symbol_at}
 use Rattle.track_arithmetic.specs.Numbers.{scaled}
 use Rattle.track_comb_gains.proofs.Shares.{scaled_none}
-use Rattle.track_comb_gains.proofs.gains.share.Goals as goal
+use Rattle.track_comb_gains.proofs.plain.share.Goals as goal
 
 pub returns-then-tap-eq0-clause-is : goal.returns-then-tap-eq0-clause-is
 returns-then-tap-eq0-clause-is g c = λ symbols h a.

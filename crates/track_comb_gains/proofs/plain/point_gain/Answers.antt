@@ -5,7 +5,7 @@ use Rattle.tracking.specs.Comb.{comb_of}
 use Rattle.track_cells.proofs.Tables.{entry}
 use Rattle.track_comb_gains.specs.Kept.{kept_tap}
 use Rattle.track_comb_gains.proofs.Shares.{gain_is, tap_counts}
-use Rattle.track_comb_gains.proofs.gains.point_gain.Goals as goal
+use Rattle.track_comb_gains.proofs.plain.point_gain.Goals as goal
 
 pub weighted-sum-requires-clause-in_file : goal.weighted-sum-requires-clause-in_file
 weighted-sum-requires-clause-in_file g c = λ i lt some.
