@@ -56,6 +56,11 @@ pub(crate) fn write_pairs(costs: &[(u16, u16)], entries: &[u16], steps: usize, t
     for step in 0..steps {
         let x = costs[entries[2 * step] as usize];
         let y = costs[entries[2 * step + 1] as usize];
-        to[step] = pair_of(x, y);
+        to[step] = CostPair {
+            x0: x.0,
+            x1: x.1,
+            y0: y.0,
+            y1: y.1,
+        };
     }
 }

@@ -3,6 +3,7 @@ mod Vectors
 mod Wrapping
 mod Sides
 pub mod Near
+mod Parts
 mod Writing
 mod Weighing
 mod Fifteenths

@@ -10,7 +10,7 @@ ghost use Rattle.soft_metric.specs.Squares.{AreAxisCosts, IsSmallPair};
 ghost use Rattle.soft_metric.specs.Weights.{weighted};
 
 use crate::lanes::costs_by_lanes;
-use crate::planes::write_planes;
+use crate::planes::{Axes, write_planes};
 use mode_set::{Hierarchy, Shape};
 use qam_map::{Cell, levels};
 use std::marker::Model;
@@ -154,6 +154,11 @@ impl AxisMetric {
             ≡ slice_index_or to.old k (0, 0) }
         ensures long { length to.new ≡ length to.old }
     {
-        write_planes(self.shape, self.hierarchy, self.levels, cells, weights, to);
+        let axes = Axes {
+            shape: self.shape,
+            hierarchy: self.hierarchy,
+            levels: self.levels,
+        };
+        write_planes(axes, cells, weights, to);
     }
 }

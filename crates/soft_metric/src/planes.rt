@@ -1,5 +1,5 @@
 // The weighted costs of all places of the labels of many cells.
-ghost use Rattle.std.specs.Prelude.{◌≡◌, ◌+◌, ◌-◌, ◌*◌, ◌/◌, ◌%◌, ◌<◌, ◌≤◌, ℕ, length, slice_index, slice_index_or};
+ghost use Rattle.std.specs.Prelude.{◌≡◌, ◌+◌, ◌-◌, ◌*◌, ◌/◌, ◌%◌, ◌<◌, ◌≤◌, ℕ, length, map, slice_index, slice_index_or};
 ghost use Rattle.mode_set.specs.Levels.{levels as levels_of};
 ghost use Rattle.mode_set.specs.StreamTable.{label_bits};
 ghost use Rattle.qam_map.specs.Points.{on_axis};
@@ -14,19 +14,64 @@ use crate::metric::costs;
 use crate::weight::{weighed, weighted};
 use mode_set::{Hierarchy, Shape};
 use qam_map::Cell;
-use std::simd::u16x16;
+use std::simd::num::SimdUint;
+use std::simd::{u16x16, u32x16};
 
-// The values of sixteen cells in a row on the axis of a place, modulo 2^16.
-fn values_from(cells: &[Cell], first: usize, place: u8) -> [u16; 16]
-    requires { first + 16 ≤ length cells.now }
-    ensures { (j : ℕ) (d : AnyCell) → j < 16 → lane_value (slice_index result j)
-        ≡ on_axis (slice_index_or cells.now (first + j) d) place }
+// A constellation, and the four levels of its axes from the outermost to the innermost.
+#[derive(Clone, Copy, Drop)]
+pub(crate) struct Axes {
+    pub(crate) shape: Shape,
+    pub(crate) hierarchy: Hierarchy,
+    pub(crate) levels: [u16; 4],
+}
+
+// A cell in a lane of 32 bits: its real part modulo 2^16 in the lower half, its imaginary part in the upper one.
+fn lane_of(cell: Cell) -> u32
+    ensures real { lane_value (result % 65536) ≡ on_axis cell 0 }
+    ensures imaginary { lane_value (result / 65536) ≡ on_axis cell 1 }
 {
-    let mut values = [0; 16];
+    65536 * value_of(cell, 1) as u32 + value_of(cell, 0) as u32
+}
+
+// Sixteen cells in a row, each in a lane of 32 bits.
+fn lanes_from(cells: &[Cell], first: usize) -> [u32; 16]
+    requires { first + 16 ≤ length cells.now }
+    ensures real { (j : ℕ) (d : AnyCell) → j < 16 → lane_value (slice_index result j % 65536)
+        ≡ on_axis (slice_index_or cells.now (first + j) d) 0 }
+    ensures imaginary { (j : ℕ) (d : AnyCell) → j < 16 → lane_value (slice_index result j / 65536)
+        ≡ on_axis (slice_index_or cells.now (first + j) d) 1 }
+{
+    let mut lanes = [0; 16];
     for k in 0..16 {
-        values[k] = value_of(cells[first + k], place);
+        lanes[k] = lane_of(cells[first + k]);
     }
-    values
+    lanes
+}
+
+// The real parts of cells in lanes of 32 bits.
+fn real_parts(cells: u32x16) -> u16x16
+    ensures { result ≡ map (λ c. c % 65536) cells }
+{
+    (cells & u32x16::splat(65535)).cast()
+}
+
+// The imaginary parts.
+fn imaginary_parts(cells: u32x16) -> u16x16
+    ensures { result ≡ map (λ c. c / 65536) cells }
+{
+    (cells >> u32x16::splat(16)).cast()
+}
+
+// The values of sixteen cells in a row on both axes, modulo 2^16.
+fn values_from(cells: &[Cell], first: usize) -> (u16x16, u16x16)
+    requires { first + 16 ≤ length cells.now }
+    ensures real { (j : ℕ) (d : AnyCell) → j < 16 → lane_value (slice_index result.0 j)
+        ≡ on_axis (slice_index_or cells.now (first + j) d) 0 }
+    ensures imaginary { (j : ℕ) (d : AnyCell) → j < 16 → lane_value (slice_index result.1 j)
+        ≡ on_axis (slice_index_or cells.now (first + j) d) 1 }
+{
+    let lanes = u32x16::from_array(lanes_from(cells, first));
+    (real_parts(lanes), imaginary_parts(lanes))
 }
 
 // The weights of sixteen cells in a row.
@@ -83,56 +128,50 @@ fn write_lanes(
 }
 
 // Writes the weighted costs at all places of the axis of `side`, 0 or 1, of sixteen cells from number
-// `q` on.
+// `q` on, which have these values on the axis.
+#[inline(always)]
 fn write_side(
-    shape: Shape,
-    hierarchy: Hierarchy,
-    levels: [u16; 4],
+    axes: Axes,
     cells: &[Cell],
     weights: &[u8],
+    values: u16x16,
     side: u8,
     q: usize,
     to: &mut [(u16, u16)],
 )
-    requires levels { levels ≡ four_levels (levels_of shape hierarchy) }
+    requires levels { axes.levels ≡ four_levels (levels_of axes.shape axes.hierarchy) }
     requires side { side < 2 }
     requires weights_long { length weights.now ≡ length cells.now }
     requires weights { (k : ℕ) → k < length cells.now → slice_index weights.now k ≤ 15 }
     requires within { q + 16 ≤ length cells.now }
-    requires room { label_bits shape * length cells.now ≤ length to.old }
-    ensures writes { WritesCosts shape hierarchy cells.now weights.now to.old to.new }
-    ensures here { (e k : ℕ) → e < label_bits shape → e % 2 ≡ side → q ≤ k → k < q + 16
-        → IsWrittenAt shape hierarchy cells.now weights.now to.new e k }
+    requires values { (j : ℕ) (d : AnyCell) → j < 16 → lane_value (slice_index values j)
+        ≡ on_axis (slice_index_or cells.now (q + j) d) side }
+    requires room { label_bits axes.shape * length cells.now ≤ length to.old }
+    ensures writes { WritesCosts axes.shape axes.hierarchy cells.now weights.now to.old to.new }
+    ensures here { (e k : ℕ) → e < label_bits axes.shape → e % 2 ≡ side → q ≤ k → k < q + 16
+        → IsWrittenAt axes.shape axes.hierarchy cells.now weights.now to.new e k }
 {
-    let values = u16x16::from_array(values_from(cells, q, side));
     let lane_weights = u16x16::from_array(weights_from(weights, q));
-    for axis in 0..shape.label_bits() / 2 {
+    for axis in 0..axes.shape.label_bits() / 2 {
         let first = (2 * axis + side) as usize * cells.len() + q;
-        write_lanes(levels, axis, values, lane_weights, to, first);
+        write_lanes(axes.levels, axis, values, lane_weights, to, first);
     }
 }
 
 // Writes the weighted costs at all places of sixteen cells from number `q` on.
-fn write_sixteen(
-    shape: Shape,
-    hierarchy: Hierarchy,
-    levels: [u16; 4],
-    cells: &[Cell],
-    weights: &[u8],
-    q: usize,
-    to: &mut [(u16, u16)],
-)
-    requires levels { levels ≡ four_levels (levels_of shape hierarchy) }
+fn write_sixteen(axes: Axes, cells: &[Cell], weights: &[u8], q: usize, to: &mut [(u16, u16)])
+    requires levels { axes.levels ≡ four_levels (levels_of axes.shape axes.hierarchy) }
     requires weights_long { length weights.now ≡ length cells.now }
     requires weights { (k : ℕ) → k < length cells.now → slice_index weights.now k ≤ 15 }
     requires within { q + 16 ≤ length cells.now }
-    requires room { label_bits shape * length cells.now ≤ length to.old }
-    ensures writes { WritesCosts shape hierarchy cells.now weights.now to.old to.new }
-    ensures here { (e k : ℕ) → e < label_bits shape → q ≤ k → k < q + 16
-        → IsWrittenAt shape hierarchy cells.now weights.now to.new e k }
+    requires room { label_bits axes.shape * length cells.now ≤ length to.old }
+    ensures writes { WritesCosts axes.shape axes.hierarchy cells.now weights.now to.old to.new }
+    ensures here { (e k : ℕ) → e < label_bits axes.shape → q ≤ k → k < q + 16
+        → IsWrittenAt axes.shape axes.hierarchy cells.now weights.now to.new e k }
 {
-    write_side(shape, hierarchy, levels, cells, weights, 0, q, to);
-    write_side(shape, hierarchy, levels, cells, weights, 1, q, to);
+    let (real, imaginary) = values_from(cells, q);
+    write_side(axes, cells, weights, real, 0, q, to);
+    write_side(axes, cells, weights, imaginary, 1, q, to);
 }
 
 // Writes the weighted costs at all places of one cell.
@@ -158,29 +197,22 @@ fn write_one(
 }
 
 // Writes the weighted costs at all places of many cells, sixteen at once and the rest one by one.
-pub(crate) fn write_planes(
-    shape: Shape,
-    hierarchy: Hierarchy,
-    levels: [u16; 4],
-    cells: &[Cell],
-    weights: &[u8],
-    to: &mut [(u16, u16)],
-)
-    requires levels { levels ≡ four_levels (levels_of shape hierarchy) }
+pub(crate) fn write_planes(axes: Axes, cells: &[Cell], weights: &[u8], to: &mut [(u16, u16)])
+    requires levels { axes.levels ≡ four_levels (levels_of axes.shape axes.hierarchy) }
     requires weights_long { length weights.now ≡ length cells.now }
     requires weights { (k : ℕ) → k < length cells.now → slice_index weights.now k ≤ 15 }
-    requires room { label_bits shape * length cells.now ≤ length to.old }
-    ensures writes { WritesCosts shape hierarchy cells.now weights.now to.old to.new }
-    ensures here { (k e : ℕ) → k < length cells.now → e < label_bits shape
-        → IsWrittenAt shape hierarchy cells.now weights.now to.new e k }
+    requires room { label_bits axes.shape * length cells.now ≤ length to.old }
+    ensures writes { WritesCosts axes.shape axes.hierarchy cells.now weights.now to.old to.new }
+    ensures here { (k e : ℕ) → k < length cells.now → e < label_bits axes.shape
+        → IsWrittenAt axes.shape axes.hierarchy cells.now weights.now to.new e k }
 {
     let mut q = 0;
     while q + 16 <= cells.len() {
-        write_sixteen(shape, hierarchy, levels, cells, weights, q, to);
+        write_sixteen(axes, cells, weights, q, to);
         q += 16;
     }
     while q < cells.len() {
-        write_one(shape, hierarchy, cells, weights, q, to);
+        write_one(axes.shape, axes.hierarchy, cells, weights, q, to);
         q += 1;
     }
 }

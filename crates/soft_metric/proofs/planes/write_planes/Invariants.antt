@@ -5,8 +5,8 @@ use Rattle.soft_metric.proofs.planes.write_planes.Given as goal
 
 abbrev pub invariant-loop-q : goal.invariant-loop-q
 invariant-loop-q l = record {
-  writes : WritesCosts l.fn.shape l.fn.hierarchy l.fn.cells l.fn.weights l.fn.to l.to;
-  here : (k e : ℕ) → k < l.q → e < label_bits l.fn.shape → IsWrittenAt l.fn.shape l.fn.hierarchy l.fn.cells l.fn.weights l.to e k;
+  writes : WritesCosts l.fn.axes.shape l.fn.axes.hierarchy l.fn.cells l.fn.weights l.fn.to l.to;
+  here : (k e : ℕ) → k < l.q → e < label_bits l.fn.axes.shape → IsWrittenAt l.fn.axes.shape l.fn.axes.hierarchy l.fn.cells l.fn.weights l.to e k;
   within : l.q ≤ length l.fn.cells;
 }
 
@@ -15,8 +15,8 @@ decreases-loop-q l = length l.cells + 1 - l.q
 
 abbrev pub invariant-loop-q-2 : goal.invariant-loop-q-2
 invariant-loop-q-2 l = record {
-  writes : WritesCosts l.fn.shape l.fn.hierarchy l.fn.cells l.fn.weights l.fn.to l.to;
-  here : (k e : ℕ) → k < l.q → e < label_bits l.fn.shape → IsWrittenAt l.fn.shape l.fn.hierarchy l.fn.cells l.fn.weights l.to e k;
+  writes : WritesCosts l.fn.axes.shape l.fn.axes.hierarchy l.fn.cells l.fn.weights l.fn.to l.to;
+  here : (k e : ℕ) → k < l.q → e < label_bits l.fn.axes.shape → IsWrittenAt l.fn.axes.shape l.fn.axes.hierarchy l.fn.cells l.fn.weights l.to e k;
   within : l.q ≤ length l.fn.cells;
 }
 

@@ -5,8 +5,8 @@ use Rattle.soft_metric.proofs.planes.write_side.Goals as goal
 
 pub loop-axis-preserved : goal.loop-axis-preserved
 loop-axis-preserved c =
-    let s = c.args.shape in
-    let h = c.args.hierarchy in
+    let s = c.args.axes.shape in
+    let h = c.args.axes.hierarchy in
     let cells = c.args.cells.now in
     let weights = c.args.weights.now in
     let q : ℕ = c.args.q in
@@ -19,7 +19,7 @@ loop-axis-preserved c =
       within = c.requires.within;
       light = c.requires.weights;
       long = c.write_lanes.ensures.long;
-      here = lanes_here s h cells weights c.args.levels c.values_from-values.result c.weights_from-lane_weights.result e c.args.side c.loop-axis.axis q first c.write_lanes.new.to c.requires.levels refl c.requires.side place c.values_from-values.ensures
+      here = lanes_here s h cells weights c.args.axes.levels c.args.values c.weights_from-lane_weights.result e c.args.side c.loop-axis.axis q first c.write_lanes.new.to c.requires.levels refl c.requires.side place c.requires.values
           c.weights_from-lane_weights.ensures c.write_lanes.ensures.here;
       below = c.write_lanes.ensures.below;
       above = c.write_lanes.ensures.above;

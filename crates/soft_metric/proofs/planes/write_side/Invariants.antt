@@ -4,6 +4,6 @@ use Rattle.soft_metric.proofs.planes.write_side.Given as goal
 
 abbrev pub invariant-loop-axis : goal.invariant-loop-axis
 invariant-loop-axis l = record {
-  writes : WritesCosts l.fn.shape l.fn.hierarchy l.fn.cells l.fn.weights l.initial.to l.to;
-  here : (e k : ℕ) → e < 2 * l.axis → e % 2 ≡ l.fn.side → l.fn.q ≤ k → k < l.fn.q + 16 → IsWrittenAt l.fn.shape l.fn.hierarchy l.fn.cells l.fn.weights l.to e k;
+  writes : WritesCosts l.fn.axes.shape l.fn.axes.hierarchy l.fn.cells l.fn.weights l.initial.to l.to;
+  here : (e k : ℕ) → e < 2 * l.axis → e % 2 ≡ l.fn.side → l.fn.q ≤ k → k < l.fn.q + 16 → IsWrittenAt l.fn.axes.shape l.fn.axes.hierarchy l.fn.cells l.fn.weights l.to e k;
 }
