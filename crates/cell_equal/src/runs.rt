@@ -5,10 +5,11 @@ ghost use Rattle.cell_equal.specs.Equal.{bytes_of, corrected};
 ghost use Rattle.cell_equal.specs.State.{IsAround, IsSmall, first_bytes};
 
 use crate::Gain;
-use crate::divide::corrected;
+use crate::divide::{corrected, corrected_pilot};
 use crate::span::Span;
 use frame_build::{cell_bytes, push_five};
 use mode_set::Mode;
+use pilots::reference;
 use qam_map::Cell;
 
 // Appends a cell divided by a gain.
@@ -50,10 +51,12 @@ pub(crate) fn push_run(
 {
     span.advance(mode, l, cells, from);
     let right = span.right;
+    let mut gain = span.gain(from);
     for k in from..right {
         let at = k as usize;
-        push_corrected(span.before_right(k), cells[at], weights[at], to);
+        push_corrected(gain, cells[at], weights[at], to);
+        gain = span.next_gain(gain);
     }
-    let at = right as usize;
-    push_corrected(span.at_right, cells[at], weights[at], to);
+    let pilot = corrected_pilot(reference(right), span.at_right, weights[right as usize]);
+    push_five(cell_bytes(pilot.cell, pilot.weight), to);
 }
