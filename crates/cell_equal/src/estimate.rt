@@ -33,8 +33,8 @@ pub(crate) fn value(x: i64, inverse: f64) -> i16
     near(x as f64 * inverse)
 }
 
-// About the quotient of a power, at most 15 times the unit, and the unit: the square of 21845 times the distance between
-// the pilots.
+// About the quotient of a power and a unit, the square of 21845 times the distance between the pilots. The power is at
+// most 15 units.
 pub(crate) fn weight(power: u64, span: u8) -> u8
     requires { span ≤ 12 }
     ensures { result ≤ 15 }
