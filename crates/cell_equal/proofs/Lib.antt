@@ -5,3 +5,4 @@ pub mod Walk
 pub mod Bytes
 pub mod Worked
 pub mod Cells
+pub mod Pilots

@@ -1,5 +1,5 @@
 -- The integer nearest to a quotient.
-use Rattle.std.proofs.Common.{◌≡◌, ℕ, ◌*◌, ◌<◌, ap, ◌∙◌, arith}
+use Rattle.std.proofs.Common.{◌≡◌, ℕ, ◌*◌, ◌<◌, ap, refl, sym, ◌∙◌, arith}
 use Rattle.std.specs.Prelude.{ℤ, pos, negsuc, ◌+ℤ◌, ◌-ℤ◌, ◌*ℤ◌, ◌≤ℤ◌, ◌<ℤ◌}
 use Rattle.std.specs.Int.{saturate_signed, w16}
 use Rattle.std.specs.Int.RustNames.{FitsSigned}
@@ -31,3 +31,12 @@ stays (negsuc n) f = omega (arith, ints, clamps, f)
 
 pub guessed : (x guess : ℤ) (n : ℕ) → FitsSigned w16 guess → guess ≡ nearest x n → guess ≡ value_near x n
 guessed x guess n f e = stays guess f ∙ ap (saturate_signed w16) e
+
+-- a multiple of the divisor
+pub whole_value : (x guess : ℤ) (n : ℕ) → FitsSigned w16 guess → 0 < n → x ≡ guess *ℤ pos n → value_near x n ≡ guess
+whole_value x guess n fits some e =
+    let p = product_is guess (pos n) in
+    let q = product_is guess (pos (2 * n)) in
+    let rest = (pos 2 *ℤ x +ℤ pos n) -ℤ guess *ℤ pos (2 * n) in
+    let is : rest ≡ pos n = omega (arith, ints, p, q, e) in
+    sym (guessed x guess n fits (tested x rest guess n some refl (omega (arith, ints, is)) (omega (arith, ints, is, some))))

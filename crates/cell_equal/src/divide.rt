@@ -1,7 +1,8 @@
 // A cell divided by the gain of its carrier.
 ghost use Rattle.std.specs.Prelude.{◌≡◌, ℕ, ◌+◌, ◌*◌, ◌^◌, ◌<◌, ◌≤◌, nat_abs, min, ◌/◌, ◌==◌, if◌then◌else◌, pos, ◌+ℤ◌};
 ghost use Rattle.std.specs.Prelude.{◌-ℤ◌, ◌*ℤ◌, ◌<ℤ◌, IsTrue};
-ghost use Rattle.cell_equal.specs.Equal.{power, nearest, value_near, divided, corrected};
+ghost use Rattle.qam_map.specs.declared.cell.Cell.{Cell as CellOf};
+ghost use Rattle.cell_equal.specs.Equal.{power, nearest, value_near, divided, corrected, unturned};
 ghost use Rattle.cell_equal.specs.State.{IsSmall};
 
 use crate::{Equalised, Gain, estimate};
@@ -98,15 +99,16 @@ fn value_by(guess: i16, x: i64, n: u64) -> i16
     value_near(x, n)
 }
 
-// A quotient times 21845 and the distance between the pilots, from a guess.
-fn quotient(guess: i16, value: i64, span: u8, n: u64) -> i16
+// A quotient times 21845 and the distance between the pilots. `inverse` is about that of `n`.
+fn quotient(value: i64, span: u8, n: u64, inverse: f64) -> i16
     requires value { nat_abs value ≤ 2 ^ 35 }
     requires span { span ≤ 12 }
     requires some { 0 < n }
     requires most { n ≤ 2 ^ 39 }
     ensures { result ≡ value_near (pos (21845 * span) *ℤ value) n }
 {
-    value_by(guess, scaled(span, value), n)
+    let x = scaled(span, value);
+    value_by(estimate::value(x, inverse), x, n)
 }
 
 // The part of a cell along the gain (u, v), times the gain's amplitude.
@@ -159,25 +161,29 @@ fn fifteen_at_most(power: u64, unit: u64) -> u8
     eights + fours + twos + ones
 }
 
-// Whether a number is the quotient of two powers, at most 15.
+// Whether a number is the quotient of two powers.
 fn is_quotient(guess: u8, power: u64, unit: u64) -> bool
     requires guess { guess ≤ 15 }
-    requires unit { 0 < unit }
-    requires most { unit ≤ 2 ^ 37 }
-    ensures { IsTrue result → guess ≡ min 15 (power / unit) }
+    requires unit { unit ≤ 2 ^ 37 }
+    ensures { IsTrue result → guess ≡ power / unit }
 {
     let part = u64::from(guess) * unit;
-    part <= power && (guess == 15 || power - part < unit)
+    if part > power {
+        return false;
+    }
+    power - part < unit
 }
 
-// The quotient of two powers, at most 15: the guess if it passes the test.
-fn fifteen_by(guess: u8, power: u64, unit: u64) -> u8
-    requires guess { guess ≤ 15 }
+// The quotient of two powers, at most 15: a guess if it passes the test.
+fn fifteen_by(span: u8, power: u64, unit: u64) -> u8
+    requires span { span ≤ 12 }
     requires unit { 0 < unit }
     requires most { unit ≤ 2 ^ 37 }
     ensures { result ≡ min 15 (power / unit) }
 {
-    if is_quotient(guess, power, unit) {
+    let limited = power.min(15 * unit);
+    let guess = estimate::weight(limited, span);
+    if is_quotient(guess, limited, unit) {
         return guess;
     }
     fifteen_at_most(power, unit)
@@ -194,7 +200,7 @@ fn weight_after(old: u8, span: u8, n: u64) -> u8
         return 0;
     }
     let one = 21845 * u64::from(span);
-    fifteen_by(estimate::weight(n, span), 16 * n, one * one)
+    fifteen_by(span, 16 * n, one * one)
 }
 
 // The cell divided by a gain of this power.
@@ -205,10 +211,12 @@ fn divided(gain: Gain, cell: Cell, n: u64) -> Cell
     requires most { n ≤ 2 ^ 39 }
     ensures { result ≡ divided gain cell }
 {
-    let (re, im) = estimate::parts(gain, cell);
+    let inverse = estimate::inverse(n);
+    let re = along(cell.re, cell.im, gain.re, gain.im);
+    let im = across(cell.re, cell.im, gain.re, gain.im);
     Cell {
-        re: quotient(re, along(cell.re, cell.im, gain.re, gain.im), gain.span, n),
-        im: quotient(im, across(cell.re, cell.im, gain.re, gain.im), gain.span, n),
+        re: quotient(re, gain.span, n, inverse),
+        im: quotient(im, gain.span, n, inverse),
     }
 }
 
@@ -229,6 +237,36 @@ pub(crate) fn corrected(gain: Gain, cell: Cell, weight: u8) -> Equalised
     Equalised {
         cell: restored,
         weight: weight_after(weight, gain.span, n),
+    }
+}
+
+// The value of a pilot as sent.
+fn sent_pilot(opposite: bool) -> i16
+    ensures { result ≡ unturned opposite (pos 21845) }
+{
+    if opposite { -21845 } else { 21845 }
+}
+
+// A pilot divided by its own gain, which gives the pilot as sent, and its weight.
+#[inline(always)]
+pub(crate) fn corrected_pilot(opposite: bool, gain: Gain, weight: u8) -> Equalised
+    requires small { IsSmall gain }
+    requires span { gain.span ≡ 1 }
+    ensures { (cell : CellOf) → gain.re ≡ unturned opposite cell.re → gain.im ≡ unturned opposite cell.im
+        → result ≡ corrected gain cell weight }
+{
+    let n = power(gain);
+    if n == 0 {
+        return Equalised {
+            cell: Cell { re: 0, im: 0 },
+            weight: 0,
+        };
+    }
+    let re = sent_pilot(opposite);
+    let after = weight_after(weight, gain.span, n);
+    Equalised {
+        cell: Cell { re, im: 0 },
+        weight: after,
     }
 }
 

@@ -1,9 +1,5 @@
 // Guesses at a corrected cell and its weight. They have no contract; the caller tests each of them.
-ghost use Rattle.std.specs.Prelude.{◌≤◌};
-ghost use Rattle.cell_equal.specs.State.{IsSmall};
-
-use crate::Gain;
-use qam_map::Cell;
+ghost use Rattle.std.specs.Prelude.{◌≤◌, ◌^◌, nat_abs};
 
 // About 2^60 divided by the square of 21845 times each distance between two pilots.
 #[rattlefmt::skip]
@@ -23,23 +19,25 @@ fn near(quotient: f64) -> i16 {
     }
 }
 
-// Approximate parts of the cell divided by the gain.
-pub(crate) fn parts(gain: Gain, cell: Cell) -> (i16, i16)
-    requires { IsSmall gain }
+// About the inverse of a power.
+pub(crate) fn inverse(n: u64) -> f64
+    requires { n ≤ 2 ^ 39 }
 {
-    let (u, v) = (f64::from(gain.re as i32), f64::from(gain.im as i32));
-    let (re, im) = (f64::from(cell.re), f64::from(cell.im));
-    let scale = f64::from(21845 * u32::from(gain.span)) / (u * u + v * v);
-    (
-        near((re * u + im * v) * scale),
-        near((im * u - re * v) * scale),
-    )
+    1.0 / (n as i64) as f64
 }
 
-// Approximately sixteen times the power of a gain over that of 21845 times the distance between the pilots, at most 15.
+// About the value of a cell nearest to x / n, from the inverse of n.
+pub(crate) fn value(x: i64, inverse: f64) -> i16
+    requires { nat_abs x ≤ 2 ^ 53 }
+{
+    near(x as f64 * inverse)
+}
+
+// About the quotient of a power and a unit, the square of 21845 times the distance between the pilots. The power is at
+// most 15 units.
 pub(crate) fn weight(power: u64, span: u8) -> u8
     requires { span ≤ 12 }
     ensures { result ≤ 15 }
 {
-    (power.wrapping_mul(SHARES[span as usize]) >> 56).min(15) as u8
+    (power.wrapping_mul(SHARES[span as usize]) >> 60) as u8
 }

@@ -16,4 +16,4 @@ mod symbol;
 
 pub use equalised::Equalised;
 pub use gain::Gain;
-pub use symbol::equalise;
+pub use symbol::{equalise, equalise_into};

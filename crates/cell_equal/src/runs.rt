@@ -1,14 +1,15 @@
 // The carriers from one pilot to the next.
-ghost use Rattle.std.specs.Prelude.{◌≡◌, ℕ, List, ◌+◌, ◌-◌, ◌*◌, ◌<◌, ◌≤◌, ◌++◌, length, vec_len, vec_capacity};
+ghost use Rattle.std.specs.Prelude.{◌≡◌, ℕ, List, ◌+◌, ◌-◌, ◌*◌, ◌<◌, ◌≤◌, ◌++◌, length, take, vec_len, vec_capacity};
 ghost use Rattle.mode_set.specs.StreamTable.{carriers};
 ghost use Rattle.cell_equal.specs.Equal.{bytes_of, corrected};
 ghost use Rattle.cell_equal.specs.State.{IsAround, IsSmall, first_bytes};
 
-use crate::Gain;
-use crate::divide::corrected;
+use crate::divide::{corrected, corrected_pilot};
 use crate::span::Span;
+use crate::{Equalised, Gain};
 use frame_build::{cell_bytes, push_five};
 use mode_set::Mode;
+use pilots::reference;
 use qam_map::Cell;
 
 // Appends a cell divided by a gain.
@@ -50,10 +51,62 @@ pub(crate) fn push_run(
 {
     span.advance(mode, l, cells, from);
     let right = span.right;
+    let mut gain = span.gain(from);
     for k in from..right {
         let at = k as usize;
-        push_corrected(span.before_right(k), cells[at], weights[at], to);
+        push_corrected(gain, cells[at], weights[at], to);
+        gain = span.next_gain(gain);
+    }
+    let pilot = corrected_pilot(reference(right), span.at_right, weights[right as usize]);
+    push_five(cell_bytes(pilot.cell, pilot.weight), to);
+}
+
+// Writes a corrected cell over the five bytes of carrier `k`.
+#[inline(always)]
+fn put_cell(restored: Equalised, k: usize, to: &mut [u8])
+    requires room { 5 * k + 5 ≤ length to.old }
+    ensures long { length to.new ≡ length to.old }
+    ensures bytes { take (5 * (k + 1)) to.new ≡ take (5 * k) to.old ++ bytes_of restored }
+{
+    let bytes = cell_bytes(restored.cell, restored.weight);
+    to[5 * k..5 * k + 5].copy_from_slice(&bytes);
+}
+
+// Writes the corrected cells from carrier `from` up to the next pilot, which may be `from` itself.
+pub(crate) fn put_run(
+    mode: Mode,
+    l: u8,
+    cells: &[Cell],
+    weights: &[u8],
+    from: u32,
+    span: &mut Span,
+    to: &mut [u8],
+)
+    requires symbol { l < 68 }
+    requires cells { length cells.now ≡ carriers mode }
+    requires weights { length weights.now ≡ carriers mode }
+    requires carrier { from < carriers mode }
+    requires before { IsAround mode l cells.now (from - 1) span.old }
+    requires long { length to.old ≡ 5 * carriers mode }
+    ensures around { IsAround mode l cells.now span.new.right span.new }
+    ensures forward { from ≤ span.new.right }
+    ensures within { span.new.right < carriers mode }
+    ensures bytes { take (5 * from) to.old ≡ first_bytes mode l cells.now weights.now from
+        → take (5 * (span.new.right + 1)) to.new ≡ first_bytes mode l cells.now weights.now (span.new.right + 1) }
+    ensures long { length to.new ≡ length to.old }
+{
+    span.advance(mode, l, cells, from);
+    let right = span.right;
+    let mut gain = span.gain(from);
+    for k in from..right {
+        let at = k as usize;
+        put_cell(corrected(gain, cells[at], weights[at]), at, to);
+        gain = span.next_gain(gain);
     }
     let at = right as usize;
-    push_corrected(span.at_right, cells[at], weights[at], to);
+    put_cell(
+        corrected_pilot(reference(right), span.at_right, weights[at]),
+        at,
+        to,
+    );
 }

@@ -1,6 +1,6 @@
 -- The cells of a file, corrected by the pilots of their own symbols (EN 300 744, 4.5; the cell file is this project's
 -- own). A file begins at the first symbol of a super-frame, so its symbol n is symbol n mod 68 of a frame.
-use Rattle.std.specs.Prelude.{◌≡◌, ◌≤◌, ℕ, ◌*◌, List, [], Some}
+use Rattle.std.specs.Prelude.{◌≡◌, ℕ, ◌*◌, List, [], Some, length}
 use Rattle.mode_set.specs.StreamTable.{carriers}
 use Rattle.mode_set.specs.declared.modes.Mode.{Mode}
 use Rattle.frame_build.specs.CellFile.{header}
@@ -17,6 +17,6 @@ equalisation mode = record {
 }
 
 -- no byte of the next symbol was taken, and there is space for it after correction
-pub record IsEmpty (mode : Mode) (taken : List ℕ) (capacity : ℕ) : Type 0 where
+pub record IsEmpty (mode : Mode) (taken room : List ℕ) : Type 0 where
   pub none : taken ≡ []
-  pub room : 5 * carriers mode ≤ capacity
+  pub room_of : length room ≡ 5 * carriers mode

@@ -36,7 +36,7 @@ fn equalise_in<'a, M: Carriers, S: Station<'a>>(
     let Ok(symbol) = SymbolIn::<M>::new(alloc) else {
         return refuse(&Refusal::Memory, station);
     };
-    let Ok(room) = Vec::with_capacity(alloc, size) else {
+    let Ok(room) = vec![in alloc; 0u8; size] else {
         return refuse(&Refusal::Memory, station);
     };
     run_conversion(

@@ -1,13 +1,28 @@
 // Correction of a symbol.
-ghost use Rattle.std.specs.Prelude.{◌≡◌, ◌≤◌, ◌*◌, [], length, vec_capacity};
+ghost use Rattle.std.specs.Prelude.{◌≡◌, ◌*◌, [], length};
 ghost use Rattle.cell_equal.specs.Files.{equalised_symbol};
 
 use crate::Converter;
-use cell_equal::equalise;
+use cell_equal::equalise_into;
 use frame_build::{SymbolIn, header};
 use mode_set::Carriers;
 
-// Corrects the whole symbol of this number, and replaces the content of `room` by it.
+// Writes the corrected symbol of this number over a slice of its size. The symbol is whole.
+fn equalise_over<M: Carriers>(number: u64, bytes: &[u8], symbol: &mut SymbolIn<M>, to: &mut [u8])
+    requires whole { length bytes.now ≡ 5 * M.K }
+    requires empty { symbol.old ≡ [] }
+    requires long { length to.old ≡ 5 * M.K }
+    ensures empty { symbol.new ≡ [] }
+    ensures long { length to.new ≡ 5 * M.K }
+    ensures corrected { to.new ≡ equalised_symbol M.MODE number bytes.now }
+{
+    symbol.take(bytes);
+    let place = (number % 68) as u8;
+    equalise_into(M::MODE, place, symbol.cells(), symbol.weights(), to);
+    symbol.next();
+}
+
+// The same in the space of a symbol, whatever its content.
 fn equalise_symbol<M: Carriers>(
     number: u64,
     bytes: &[u8],
@@ -16,16 +31,12 @@ fn equalise_symbol<M: Carriers>(
 )
     requires whole { length bytes.now ≡ 5 * M.K }
     requires empty { symbol.old ≡ [] }
-    requires room { 5 * M.K ≤ vec_capacity room.old }
+    requires long { length room.old.items ≡ 5 * M.K }
     ensures empty { symbol.new ≡ [] }
-    ensures capacity { vec_capacity room.new ≡ vec_capacity room.old }
+    ensures long { length room.new.items ≡ 5 * M.K }
     ensures corrected { room.new.items ≡ equalised_symbol M.MODE number bytes.now }
 {
-    symbol.take(bytes);
-    room.clear();
-    let place = (number % 68) as u8;
-    equalise(M::MODE, place, symbol.cells(), symbol.weights(), room);
-    symbol.next();
+    equalise_over(number, bytes, symbol, room);
 }
 
 /// The symbol being read, and space for the corrected one.
@@ -42,7 +53,7 @@ impl<M: Carriers> Converter for Equaliser<M> {
 
     ghost conversion = { λ x. equalisation M.MODE };
 
-    ghost is_ready = { λ x. IsEmpty M.MODE x.symbol (vec_capacity x.room) };
+    ghost is_ready = { λ x. IsEmpty M.MODE x.symbol x.room.items };
 
     ghost converted = { λ x. x.room.items };
 

@@ -2,7 +2,7 @@
 ghost use Rattle.std.specs.Prelude.{◌≡◌, ◌+◌, ◌*◌, ◌<◌, length};
 ghost use Rattle.mode_set.specs.StreamTable.{carriers};
 
-use cell_equal::{equalise, plain};
+use cell_equal::{equalise, equalise_into, plain};
 use mode_set::Mode;
 use pilots::{CarrierKind, kind, reference};
 use qam_map::Cell;
@@ -36,6 +36,9 @@ fn equalised(
     let mut plainly = Vec::with_capacity(alloc, 5 * count).expect(rt, "memory");
     plain::equalise(mode, l, cells, weights, &mut plainly);
     assert!(rt; bytes == plainly, "symbol {l}");
+    let mut written = vec![in alloc; 1u8; 5 * count].expect(rt, "memory");
+    equalise_into(mode, l, cells, weights, &mut written);
+    assert!(rt; written == plainly, "symbol {l}");
     bytes
 }
 

@@ -13,7 +13,7 @@ run_conversion-requires g c κs =
       (
         ap (λ (h : List ℕ). Some h) (c.header.ensures ∙ ap header c.MODE.ensures),
         (
-          record { none = c.in-Ok-new.ensures; room = omega (arith, c.in-Ok-with_capacity.ensures.capacity, c.K.ensures, many) },
+          record { none = c.in-Ok-new.ensures; room_of = omega (arith, c.in-Ok-vec.ensures.len, c.K.ensures, many) },
           (long, (omega (arith, long, some), c.requires.ready)),
         ),
       ),

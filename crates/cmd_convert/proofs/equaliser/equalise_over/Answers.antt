@@ -1,8 +1,8 @@
-use Rattle.std.proofs.Common.{◌≡◌, ◌++◌, ◌%◌, ℕ, List, ap, ◌∙◌}
+use Rattle.std.proofs.Common.{◌≡◌, ◌%◌, ℕ, List, ap, ◌∙◌}
 use Rattle.mode_set.specs.declared.modes.Mode.{Mode}
 use Rattle.cell_equal.specs.Equal.{equalised_bytes}
 use Rattle.cmd_convert.proofs.EqualiseTaking.{all_taken, corrected}
-use Rattle.cmd_convert.proofs.equaliser.equalise_symbol.Goals as goal
+use Rattle.cmd_convert.proofs.equaliser.equalise_over.Goals as goal
 
 pub returns-clause-corrected : goal.returns-clause-corrected
 returns-clause-corrected g c =
@@ -10,7 +10,6 @@ returns-clause-corrected g c =
     let k : ℕ = g.M.Carriers.K in
     let bytes : List ℕ = c.args.bytes.now in
     let piece : c.take.new.self ≡ bytes = all_taken k c.args.symbol.now bytes c.take.result c.take.new.self c.requires.empty c.requires.whole c.take.ensures.count c.take.ensures.taken in
-    c.equalise.ensures.appended
-    ∙ ap (λ (m : Mode). c.clear.new.self.items ++ equalised_bytes m (c.args.number % 68) c.cells.result.now c.weights.result.now) c.MODE.ensures
-    ∙ ap (λ (l : List ℕ). l ++ equalised_bytes mode (c.args.number % 68) c.cells.result.now c.weights.result.now) c.clear.ensures.items
+    c.equalise_into.ensures.bytes
+    ∙ ap (λ (m : Mode). equalised_bytes m (c.args.number % 68) c.cells.result.now c.weights.result.now) c.MODE.ensures
     ∙ corrected mode k c.args.number c.take.new.self bytes c.cells.result.now c.weights.result.now g.M.Carriers.k_of piece c.cells.ensures.cells c.weights.ensures.weights
