@@ -1,8 +1,8 @@
 -- The loops over the steps of a window.
-use Rattle.std.proofs.Common.{min, ◌≡◌, ℕ, ◌+◌, ◌-◌, ◌*◌, ◌^◌, ◌<◌, ◌≤◌, Bool, true, false, List, [], ◌∷◌, ◌++◌, length, take, drop, ◌⊎◌, inl, inr, refl, sym, ap, ap₂, ◌∙◌, subst, arith, append-nil, append_assoc, length-take, below_more, length-drop, length-take-le, take-append-drop, slice_index, slice_index_or, get_or-set_other, get_or-set_same}
+use Rattle.std.proofs.Common.{◌≡◌, ℕ, ◌+◌, ◌-◌, ◌*◌, ◌^◌, ◌<◌, ◌≤◌, Bool, true, false, List, [], ◌∷◌, ◌++◌, length, take, drop, ◌⊎◌, inl, inr, refl, sym, ap, ap₂, ◌∙◌, subst, arith, append-nil, append_assoc, length-take, below_more, length-drop, length-take-le, take-append-drop, slice_index, slice_index_or, get_or-set_other, get_or-set_same}
 use Rattle.std.specs.Prelude.{slice_set}
 use Rattle.std.specs.Int.{abs_diff}
-use Rattle.std.proofs.lemmas.List.{drop-drop, drop_more, drop_all, take_more, get_or_push, get_or_append_left, length_push, take_rest}
+use Rattle.std.proofs.lemmas.List.{drop_more, drop_all, take_more, get_or_push, get_or_append_left, length_push, take_rest}
 use Rattle.std.proofs.lemmas.Bool.{cases_eq}
 use Rattle.std.specs.declared.option.Option.{Option}
 use Rattle.code_paths.specs.declared.costs.CostPair.{CostPair}
@@ -50,35 +50,6 @@ rows_more c rows block i j p sums e q w h f t l m = go (cases_eq t p)
         let place : j ≡ t + 1 = omega arith in
         subst (λ (z : List ℕ). AreBackward (drop (t + 1) c) z) (sym same) (subst (λ (k : ℕ). AreBackward (drop k c) sums) place h)
     go (inr g) = subst (λ (z : List ℕ). AreBackward (drop (t + 1) c) z) (sym (get_or-set_other rows p t sums [] g)) (f t (omega (arith, g)) m)
-
--- ---- parts of a block
-
--- the sums after a part, seen from its start
-pub behind_part : (c : List CostPair) (from n until : ℕ) (sums : List ℕ) → from + n ≡ until → AreBackward (drop until c) sums → AreBackward (drop n (take (length c - from) (drop from c))) sums
-behind_part c from n until sums e h = subst (λ (z : List CostPair). AreBackward z sums) same h
-  where
-    same : drop until c ≡ drop n (take (length c - from) (drop from c))
-    same = ap (λ (m : ℕ). drop m c) (sym e) ∙ sym (drop-drop n from c) ∙ ap (drop n) (sym (take_rest c from))
-
--- its rows, seen from the window's start
-pub rows_of_part : (c : List CostPair) (from n : ℕ) (rows : List (List ℕ)) → AreRows (take (length c - from) (drop from c)) n rows → (t : ℕ) → t < n → AreBackward (drop (from + t + 1) c) (row rows t)
-rows_of_part c from n rows h t l = subst (λ (z : List CostPair). AreBackward z (row rows t)) same (h t l)
-  where
-    same : drop (t + 1) (take (length c - from) (drop from c)) ≡ drop (from + t + 1) c
-    same = ap (drop (t + 1)) (take_rest c from) ∙ drop-drop (t + 1) from c ∙ ap (λ (m : ℕ). drop m c) (omega arith)
-
--- the marks from j on and one more before them
-pub marks_more : (c : List CostPair) (marks : List (List ℕ)) (n i j p : ℕ) (sums : List ℕ) → j ≡ i + 1 → p ≡ i → i < length marks → AreBackward (drop (min (32 * j) n) c) sums
-    → ((t : ℕ) → j ≤ t → t < 32 → AreBackward (drop (min (32 * (t + 1)) n) c) (row marks t))
-    → (t : ℕ) → i ≤ t → t < 32 → AreBackward (drop (min (32 * (t + 1)) n) c) (row (slice_set marks p sums) t)
-marks_more c marks n i j p sums e q w h f t l m = go (cases_eq t p)
-  where
-    go : (t ≡ p) ⊎ (t ≡ p → ⊥) → AreBackward (drop (min (32 * (t + 1)) n) c) (row (slice_set marks p sums) t)
-    go (inl g) =
-        let same : row (slice_set marks p sums) t ≡ sums = ap (row (slice_set marks p sums)) g ∙ get_or-set_same marks p sums [] (omega arith) in
-        let place : j ≡ t + 1 = omega arith in
-        subst (λ (z : List ℕ). AreBackward (drop (min (32 * (t + 1)) n) c) z) (sym same) (subst (λ (k : ℕ). AreBackward (drop (min (32 * k) n) c) sums) place h)
-    go (inr g) = subst (λ (z : List ℕ). AreBackward (drop (min (32 * (t + 1)) n) c) z) (sym (get_or-set_other marks p t sums [] g)) (f t (omega (arith, g)) m)
 
 -- ---- the margins
 

@@ -1,5 +1,5 @@
 -- Least totals to a state and from a state.
-use Rattle.std.specs.Prelude.{◌≡◌, ℕ, ◌+◌, ◌*◌, ◌<◌, ◌≤◌, ◌^◌, Bool, min, List, [], ◌++◌, length, take, drop}
+use Rattle.std.specs.Prelude.{◌≡◌, ℕ, ◌+◌, ◌*◌, ◌<◌, ◌≤◌, ◌^◌, Bool, List, [], ◌++◌, length, take, drop}
 use Rattle.std.specs.Prelude.{slice_index, slice_index_or}
 use Rattle.std.specs.declared.option.Option.{Option}
 use Rattle.std.specs.declared.option.Option.TheVariants.{None, Some}
@@ -69,11 +69,6 @@ pub record Appended (a : Option (List Bool)) (c : List CostPair) (n : ℕ) (old 
   pub is : new ≡ old ++ more
   pub long : length more ≡ n
   pub each : (t : ℕ) → t < n → IsMargin a c t (slice_index more t)
-
--- the rows are the backward sums, from the end of the window to the end of each part of 32 steps of the block of n
--- steps
-abbrev pub AreMarks : List CostPair → ℕ → List (List ℕ) → Type 0
-AreMarks c n marks = (i : ℕ) → i < 32 → AreBackward (drop (min (32 * (i + 1)) n) c) (row marks i)
 
 -- The first n steps of window c are done: these are the sums before the next step, and the margins were appended.
 pub record Passed (s : StartState) (c : List CostPair) (n : ℕ) (before old new : List ℕ) : Type 0 where

@@ -21,6 +21,3 @@ loop-k-preserved c = record {
 
 pub returns-clause-rows : goal.returns-clause-rows
 returns-clause-rows c = λ t l. c.loop-k.invariant.rows t (omega arith) l
-
-pub returns-clause-before : goal.returns-clause-before
-returns-clause-before c = backward_same c.args.window.now (c.args.steps - c.loop-k.k) 0 _ (omega arith) c.loop-k.invariant.sums
