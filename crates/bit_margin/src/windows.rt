@@ -1,32 +1,33 @@
 // The margins of a block over its window.
-ghost use Rattle.std.specs.Prelude.{◌≡◌, ◌+◌, ◌<◌, ◌≤◌, ℕ, List, length, drop, vec_len, vec_capacity};
+ghost use Rattle.std.specs.Prelude.{◌≡◌, ◌+◌, ◌<◌, ◌≤◌, ℕ, List, None, length, drop, vec_len, vec_capacity};
 ghost use Rattle.inner_decoder.specs.Starts.{start_of};
 ghost use Rattle.inner_decoder.specs.declared.decoder.StartState.{StartState};
-ghost use Rattle.bit_margin.specs.Sums.{AreBackward, AreRows, Appended, HavePassed, Passed};
+ghost use Rattle.bit_margin.specs.Sums.{AreLowBackward, AreRows, Appended, HavePassed, Passed};
 
-use crate::sums::{States, least_on, no_costs, start_costs};
-use acs_lanes::{backward, forward};
+use crate::lanes16::LowStates;
+use crate::low_margin::margin_between;
+use crate::lowered::{no_sums, step_back, step_on};
+use crate::sums::{States, least_on, start_costs};
+use acs_lanes::forward;
 use conv_code::CostPair;
 use inner_decoder::StartState;
 
-/// The least sums over the pairs from each state before them.
-fn sums_over(pairs: &[CostPair]) -> States
-    requires few { length pairs.now ≤ 1280 }
-    ensures { AreBackward pairs.now result }
+/// The least sums over the pairs from each state before them, less a number.
+fn sums_over(pairs: &[CostPair]) -> LowStates
+    ensures { AreLowBackward pairs.now result }
 {
-    let mut sums = no_costs();
+    let mut sums = no_sums();
     for k in 0..pairs.len() {
-        backward(&mut sums, pairs[pairs.len() - 1 - k]);
+        step_back(&mut sums, pairs[pairs.len() - 1 - k]);
     }
     sums
 }
 
 /// Writes the sums after each of the first steps of a window, from those after the last of them.
-fn keep_backward(window: &[CostPair], steps: usize, behind: &States, rows: &mut [States])
-    requires few { length window.now ≤ 1280 }
+fn keep_backward(window: &[CostPair], steps: usize, behind: &LowStates, rows: &mut [LowStates])
     requires steps { steps ≤ length window.now }
     requires room { steps ≤ length rows.old }
-    requires behind { AreBackward (drop steps window.now) behind.now }
+    requires behind { AreLowBackward (drop steps window.now) behind.now }
     ensures rows { AreRows window.now steps rows.new }
     ensures size { length rows.new ≡ length rows.old }
 {
@@ -34,7 +35,7 @@ fn keep_backward(window: &[CostPair], steps: usize, behind: &States, rows: &mut 
     for k in 0..steps {
         let t = steps - 1 - k;
         rows[t] = sums;
-        backward(&mut sums, window[t]);
+        step_back(&mut sums, window[t]);
     }
 }
 
@@ -43,7 +44,7 @@ fn push_margins(
     before: &mut States,
     window: &[CostPair],
     steps: usize,
-    rows: &[States],
+    rows: &[LowStates],
     to: &mut Vec<u32>,
 )
     requires few { length window.now ≤ 1280 }
@@ -64,12 +65,46 @@ fn push_margins(
     }
 }
 
+/// Appends the margins of the first steps of a window whose paths may start anywhere, from the sums after each of them.
+fn push_low(window: &[CostPair], steps: usize, rows: &[LowStates], to: &mut Vec<u32>)
+    requires few { length window.now ≤ 1280 }
+    requires steps { steps ≤ length window.now }
+    requires size { steps ≤ length rows.now }
+    requires rows { AreRows window.now steps rows.now }
+    requires spare { vec_len to.old + steps ≤ vec_capacity to.old }
+    ensures margins { Appended None window.now steps to.old.items to.new.items }
+    ensures len { vec_len to.new ≡ vec_len to.old + steps }
+    ensures capacity { vec_capacity to.new ≡ vec_capacity to.old }
+{
+    let mut before = no_sums();
+    for t in 0..steps {
+        step_on(&mut before, window[t]);
+        to.push_reserved(margin_between(&before, &rows[t]));
+    }
+}
+
+/// Appends the margins of the first steps of a window whose paths start in state 0, from the sums after each of them.
+// The sums are of 32 bits, as those from a start that is not allowed are far above the others. It is the first block.
+fn push_first(window: &[CostPair], steps: usize, rows: &[LowStates], to: &mut Vec<u32>)
+    requires few { length window.now ≤ 1280 }
+    requires steps { steps ≤ length window.now }
+    requires size { steps ≤ length rows.now }
+    requires rows { AreRows window.now steps rows.now }
+    requires spare { vec_len to.old + steps ≤ vec_capacity to.old }
+    ensures margins { Appended (start_of StartState.Zero) window.now steps to.old.items to.new.items }
+    ensures len { vec_len to.new ≡ vec_len to.old + steps }
+    ensures capacity { vec_capacity to.new ≡ vec_capacity to.old }
+{
+    let mut before = start_costs(StartState::Zero);
+    push_margins(&mut before, window, steps, rows, to);
+}
+
 /// Appends the margins of the first steps of a window.
 pub(crate) fn push_block(
     start: StartState,
     window: &[CostPair],
     block: usize,
-    rows: &mut [States],
+    rows: &mut [LowStates],
     to: &mut Vec<u32>,
 )
     requires few { length window.now ≤ 1280 }
@@ -84,6 +119,8 @@ pub(crate) fn push_block(
 {
     let behind = sums_over(&window[block..]);
     keep_backward(window, block, &behind, rows);
-    let mut before = start_costs(start);
-    push_margins(&mut before, window, block, rows, to);
+    match start {
+        StartState::Any => push_low(window, block, rows, to),
+        StartState::Zero => push_first(window, block, rows, to),
+    }
 }
