@@ -10,3 +10,8 @@ mod Places
 mod Once
 mod Trying
 mod Vectors
+mod Sixteen
+mod LowSums
+mod Ahead
+mod Capped
+mod Zipped

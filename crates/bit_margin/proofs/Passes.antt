@@ -1,84 +1,51 @@
 -- The loops over the steps of a window.
-use Rattle.std.proofs.Common.{min, ◌≡◌, ℕ, ◌+◌, ◌-◌, ◌*◌, ◌^◌, ◌<◌, ◌≤◌, Bool, true, false, List, [], ◌∷◌, ◌++◌, length, take, drop, ◌⊎◌, inl, inr, refl, sym, ap, ap₂, ◌∙◌, subst, arith, append-nil, append_assoc, length-take, below_more, length-drop, length-take-le, take-append-drop, slice_index, slice_index_or, get_or-set_other, get_or-set_same}
+use Rattle.std.proofs.Common.{◌≡◌, ℕ, ◌+◌, ◌-◌, ◌*◌, ◌^◌, ◌<◌, ◌≤◌, Bool, true, false, List, [], ◌∷◌, ◌++◌, length, take, drop, ◌⊎◌, inl, inr, refl, sym, ap, ap₂, ◌∙◌, subst, arith, append-nil, append_assoc, length-take, below_more, length-drop, length-take-le, take-append-drop, slice_index, slice_index_or, get_or-set_other, get_or-set_same}
 use Rattle.std.specs.Prelude.{slice_set}
 use Rattle.std.specs.Int.{abs_diff}
-use Rattle.std.proofs.lemmas.List.{drop-drop, drop_more, drop_all, take_more, get_or_push, get_or_append_left, length_push, take_rest}
+use Rattle.std.proofs.lemmas.List.{drop_more, drop_all, take_more, get_or_push, get_or_append_left, length_push, take_rest}
 use Rattle.std.proofs.lemmas.Bool.{cases_eq}
 use Rattle.std.specs.declared.option.Option.{Option}
+use Rattle.std.specs.declared.option.Option.TheVariants.{None}
 use Rattle.code_paths.specs.declared.costs.CostPair.{CostPair}
 use Rattle.inner_decoder.specs.declared.decoder.StartState.{StartState}
 use Rattle.inner_decoder.specs.declared.decoder.StartState.TheVariants.{Zero, Any}
 use Rattle.inner_decoder.specs.Starts.{start_of}
 use Rattle.bit_margin.specs.Margin.{LeastWith, IsMargin}
-use Rattle.acs_lanes.specs.Totals.{IsBackward, IsForward}
-use Rattle.bit_margin.specs.Sums.{row, AreBackward, AreForward, AreRows, AreStartCosts, HavePassed, IsLeastOf, Appended, Passed, far}
-use Rattle.bit_margin.proofs.Backward.{backward_none, backward_more, backward_small}
+use Rattle.acs_lanes.specs.Totals.{IsForward}
+use Rattle.bit_margin.specs.Sums.{row, raised, AreBackward, AreLowBackward, AreLowForward, IsApart, AreForward, AreRows, AreStartCosts, HavePassed, IsLeastOf, Appended, Passed, far}
+use Rattle.bit_margin.proofs.LowSums.{low_none, raised_at, raised_least, apart_raised}
+use Rattle.bit_margin.proofs.Capped.{moved_least}
 use Rattle.bit_margin.proofs.Forward.{forward_more, forward_none, forward_small}
 use Rattle.bit_margin.proofs.Through.{through, settled, from_on}
 
 -- the sums over no steps
-pub backward_start : (c : List CostPair) (i : ℕ) (sums : List ℕ) → length c ≤ i → ((n : ℕ) → n < 64 → slice_index sums n ≡ 0) → AreBackward (drop i c) sums
-backward_start c i sums l h = subst (λ (z : List CostPair). AreBackward z sums) (sym (drop_all i c l)) (backward_none sums h)
-
-pub backward_far : (c : List CostPair) (i : ℕ) (sums : List ℕ) → length c ≤ 1280 → AreBackward (drop i c) sums → (n : ℕ) → n < 64 → slice_index sums n ≤ 2 ^ 30
-backward_far c i sums l h n m = omega (arith, backward_small (drop i c) sums h n m, length-drop i c)
-
-pub backward_fits : (c : List CostPair) (i : ℕ) (sums : List ℕ) → length c ≤ 1280 → AreBackward (drop i c) sums → (n : ℕ) → n < 64 → slice_index sums n + 8190 < 2 ^ 32
-backward_fits c i sums l h n m = omega (arith, backward_far c i sums l h n m)
+pub low_start : (c : List CostPair) (i : ℕ) (sums : List ℕ) → length c ≤ i → ((n : ℕ) → n < 64 → slice_index sums n ≡ 0) → AreLowBackward (drop i c) sums
+low_start c i sums l h = subst (λ (z : List CostPair). AreLowBackward z sums) (sym (drop_all i c l)) (low_none sums h)
 
 -- over one more step, the one before them
-pub backward_at : (c : List CostPair) (i j p : ℕ) (x : CostPair) (old new : List ℕ) → i < length c → j ≡ i + 1 → p ≡ i → (d : CostPair) → x ≡ slice_index_or c p d → AreBackward (drop j c) old → IsBackward x old new → AreBackward (drop i c) new
-backward_at c i j p x old new l k q d e h s =
+pub low_at : (c : List CostPair) (i j p : ℕ) (x : CostPair) (old new : List ℕ) → i < length c → j ≡ i + 1 → p ≡ i → (d : CostPair) → x ≡ slice_index_or c p d → AreLowBackward (drop j c) old → ((e : List CostPair) → AreLowBackward e old → AreLowBackward (x ∷ e) new) → AreLowBackward (drop i c) new
+low_at c i j p x old new l k q d e h s =
     let g : drop i c ≡ x ∷ drop j c = drop_more c i d l ∙ ap₂ (λ (u : CostPair) (m : ℕ). u ∷ drop m c) (ap (λ (m : ℕ). slice_index_or c m d) (sym q) ∙ sym e) (sym k) in
-    subst (λ (z : List CostPair). AreBackward z new) (sym g) (backward_more x (drop j c) old new h s)
+    subst (λ (z : List CostPair). AreLowBackward z new) (sym g) (s (drop j c) h)
 
-pub backward_same : (c : List CostPair) (i j : ℕ) (sums : List ℕ) → i ≡ j → AreBackward (drop i c) sums → AreBackward (drop j c) sums
-backward_same c i j sums e h = subst (λ (m : ℕ). AreBackward (drop m c) sums) e h
+pub low_same : (c : List CostPair) (i j : ℕ) (sums : List ℕ) → i ≡ j → AreLowBackward (drop i c) sums → AreLowBackward (drop j c) sums
+low_same c i j sums e h = subst (λ (m : ℕ). AreLowBackward (drop m c) sums) e h
 
-pub rest_backward : (c : List CostPair) (i j : ℕ) (sums : List ℕ) → j ≡ i → AreBackward (take (length c - i) (drop i c)) sums → AreBackward (drop j c) sums
-rest_backward c i j sums e h = subst (λ (z : List CostPair). AreBackward z sums) (take_rest c i ∙ ap (λ (m : ℕ). drop m c) (sym e)) h
+pub rest_low : (c : List CostPair) (i j : ℕ) (sums : List ℕ) → j ≡ i → AreLowBackward (take (length c - i) (drop i c)) sums → AreLowBackward (drop j c) sums
+rest_low c i j sums e h = subst (λ (z : List CostPair). AreLowBackward z sums) (take_rest c i ∙ ap (λ (m : ℕ). drop m c) (sym e)) h
 
 -- the rows from j on and one more before them
-pub rows_more : (c : List CostPair) (rows : List (List ℕ)) (block i j p : ℕ) (sums : List ℕ) → j ≡ i + 1 → p ≡ i → i < length rows → AreBackward (drop j c) sums
-    → ((t : ℕ) → j ≤ t → t < block → AreBackward (drop (t + 1) c) (row rows t))
-    → (t : ℕ) → i ≤ t → t < block → AreBackward (drop (t + 1) c) (row (slice_set rows p sums) t)
+pub rows_more : (c : List CostPair) (rows : List (List ℕ)) (block i j p : ℕ) (sums : List ℕ) → j ≡ i + 1 → p ≡ i → i < length rows → AreLowBackward (drop j c) sums
+    → ((t : ℕ) → j ≤ t → t < block → AreLowBackward (drop (t + 1) c) (row rows t))
+    → (t : ℕ) → i ≤ t → t < block → AreLowBackward (drop (t + 1) c) (row (slice_set rows p sums) t)
 rows_more c rows block i j p sums e q w h f t l m = go (cases_eq t p)
   where
-    go : (t ≡ p) ⊎ (t ≡ p → ⊥) → AreBackward (drop (t + 1) c) (row (slice_set rows p sums) t)
+    go : (t ≡ p) ⊎ (t ≡ p → ⊥) → AreLowBackward (drop (t + 1) c) (row (slice_set rows p sums) t)
     go (inl g) =
         let same : row (slice_set rows p sums) t ≡ sums = ap (row (slice_set rows p sums)) g ∙ get_or-set_same rows p sums [] (omega arith) in
         let place : j ≡ t + 1 = omega arith in
-        subst (λ (z : List ℕ). AreBackward (drop (t + 1) c) z) (sym same) (subst (λ (k : ℕ). AreBackward (drop k c) sums) place h)
-    go (inr g) = subst (λ (z : List ℕ). AreBackward (drop (t + 1) c) z) (sym (get_or-set_other rows p t sums [] g)) (f t (omega (arith, g)) m)
-
--- ---- parts of a block
-
--- the sums after a part, seen from its start
-pub behind_part : (c : List CostPair) (from n until : ℕ) (sums : List ℕ) → from + n ≡ until → AreBackward (drop until c) sums → AreBackward (drop n (take (length c - from) (drop from c))) sums
-behind_part c from n until sums e h = subst (λ (z : List CostPair). AreBackward z sums) same h
-  where
-    same : drop until c ≡ drop n (take (length c - from) (drop from c))
-    same = ap (λ (m : ℕ). drop m c) (sym e) ∙ sym (drop-drop n from c) ∙ ap (drop n) (sym (take_rest c from))
-
--- its rows, seen from the window's start
-pub rows_of_part : (c : List CostPair) (from n : ℕ) (rows : List (List ℕ)) → AreRows (take (length c - from) (drop from c)) n rows → (t : ℕ) → t < n → AreBackward (drop (from + t + 1) c) (row rows t)
-rows_of_part c from n rows h t l = subst (λ (z : List CostPair). AreBackward z (row rows t)) same (h t l)
-  where
-    same : drop (t + 1) (take (length c - from) (drop from c)) ≡ drop (from + t + 1) c
-    same = ap (drop (t + 1)) (take_rest c from) ∙ drop-drop (t + 1) from c ∙ ap (λ (m : ℕ). drop m c) (omega arith)
-
--- the marks from j on and one more before them
-pub marks_more : (c : List CostPair) (marks : List (List ℕ)) (n i j p : ℕ) (sums : List ℕ) → j ≡ i + 1 → p ≡ i → i < length marks → AreBackward (drop (min (32 * j) n) c) sums
-    → ((t : ℕ) → j ≤ t → t < 32 → AreBackward (drop (min (32 * (t + 1)) n) c) (row marks t))
-    → (t : ℕ) → i ≤ t → t < 32 → AreBackward (drop (min (32 * (t + 1)) n) c) (row (slice_set marks p sums) t)
-marks_more c marks n i j p sums e q w h f t l m = go (cases_eq t p)
-  where
-    go : (t ≡ p) ⊎ (t ≡ p → ⊥) → AreBackward (drop (min (32 * (t + 1)) n) c) (row (slice_set marks p sums) t)
-    go (inl g) =
-        let same : row (slice_set marks p sums) t ≡ sums = ap (row (slice_set marks p sums)) g ∙ get_or-set_same marks p sums [] (omega arith) in
-        let place : j ≡ t + 1 = omega arith in
-        subst (λ (z : List ℕ). AreBackward (drop (min (32 * (t + 1)) n) c) z) (sym same) (subst (λ (k : ℕ). AreBackward (drop (min (32 * k) n) c) sums) place h)
-    go (inr g) = subst (λ (z : List ℕ). AreBackward (drop (min (32 * (t + 1)) n) c) z) (sym (get_or-set_other marks p t sums [] g)) (f t (omega (arith, g)) m)
+        subst (λ (z : List ℕ). AreLowBackward (drop (t + 1) c) z) (sym same) (subst (λ (k : ℕ). AreLowBackward (drop k c) sums) place h)
+    go (inr g) = subst (λ (z : List ℕ). AreLowBackward (drop (t + 1) c) z) (sym (get_or-set_other rows p t sums [] g)) (f t (omega (arith, g)) m)
 
 -- ---- the margins
 
@@ -163,8 +130,35 @@ passed_more s c n j x d before after behind old mid new u v w g l m e f b iz io 
     ahead : AreForward h.first (take (n + 1) c) after
     ahead = forward_at h.first c n x d before after m e h.forward f
 
+-- the same with sums after the step less a number
+pub passed_low : (s : StartState) (c : List CostPair) (n j : ℕ) (x d : CostPair) (before after behind old mid new : List ℕ) (u v w : ℕ) → j ≡ n + 1 → length c ≤ 1280 → n < length c → x ≡ slice_index_or c n d
+    → IsForward x before after → AreLowBackward (drop (n + 1) c) behind
+    → IsLeastOf (λ k. slice_index after (k + 0) + slice_index behind (k + 0)) 32 u → IsLeastOf (λ k. slice_index after (k + 32) + slice_index behind (k + 32)) 32 v
+    → w ≡ abs_diff u v → new ≡ mid ++ w ∷ [] → Passed s c n before old mid → Passed s c j after old new
+passed_low s c n j x d before after behind old mid new u v w g l m e f b iz io q a h =
+    passed_more s c n j x d before after (raised b.less behind) old mid new (u + b.less) (v + b.less) w g l m e f b.are (raised_least after behind b.less 0 u (omega arith) iz) (raised_least after behind b.less 32 v (omega arith) io) (q ∙ apart_raised b.less u v) a h
+
 pub passed_at : (s : StartState) (c : List CostPair) (n j : ℕ) (before old new : List ℕ) → n ≡ j → Passed s c n before old new → Passed s c j before old new
 passed_at s c n j before old new e h = subst (λ (k : ℕ). Passed s c k before old new) e h
 
 pub passed_same : (s : StartState) (c : List CostPair) (n : ℕ) (before old mid new : List ℕ) → mid ≡ new → Passed s c n before old mid → Passed s c n before old new
 passed_same s c n before old mid new e h = subst (λ (z : List ℕ). Passed s c n before old z) e h
+
+-- ---- by sums less a number, from any start
+
+pub ahead_at : (c : List CostPair) (t j : ℕ) (x d : CostPair) (old new : List ℕ) → t < length c → j ≡ t + 1 → x ≡ slice_index_or c t d → AreLowForward (take t c) old → ((e : List CostPair) → AreLowForward e old → AreLowForward (e ++ x ∷ []) new) → AreLowForward (take j c) new
+ahead_at c t j x d old new l g e h s =
+    subst (λ (z : List CostPair). AreLowForward z new) (sym (ap (λ (m : ℕ). take m c) g ∙ take_more c t d l ∙ ap (λ (z : CostPair). take t c ++ z ∷ []) (sym e))) (s (take t c) h)
+
+pub margin_low : (c : List CostPair) (t : ℕ) (before behind : List ℕ) (m : ℕ) → length c ≤ 1280 → t < length c → AreLowForward (take (t + 1) c) before → AreLowBackward (drop (t + 1) c) behind → IsApart before behind m → IsMargin None c t m
+margin_low c t before behind m few l f b h =
+    subst (IsMargin None c t) (sym (h.is ∙ apart_raised (f.less + b.less) h.zero h.one))
+    (margin_at Any f.first c t (raised f.less before) (raised b.less behind) (h.zero + (f.less + b.less)) (h.one + (f.less + b.less)) f.starts few l f.are b.are
+    (moved_least (λ k. slice_index before (k + 0) + slice_index behind (k + 0)) (λ k. slice_index (raised f.less before) (k + 0) + slice_index (raised b.less behind) (k + 0)) h.zero (f.less + b.less) (moved 0 (omega arith)) h.least_zero)
+    (moved_least (λ k. slice_index before (k + 32) + slice_index behind (k + 32)) (λ k. slice_index (raised f.less before) (k + 32) + slice_index (raised b.less behind) (k + 32)) h.one (f.less + b.less) (moved 32 (omega arith)) h.least_one))
+  where
+    moved : (from : ℕ) → from ≤ 32 → (k : ℕ) → k < 32 → slice_index (raised f.less before) (k + from) + slice_index (raised b.less behind) (k + from) ≡ slice_index before (k + from) + slice_index behind (k + from) + (f.less + b.less)
+    moved from p k i = omega (arith, raised_at f.less before (k + from) (omega (arith, p, i)), raised_at b.less behind (k + from) (omega (arith, p, i)))
+
+pub appended_at : (a : Option (List Bool)) (c : List CostPair) (n j : ℕ) (old new : List ℕ) → n ≡ j → Appended a c n old new → Appended a c j old new
+appended_at a c n j old new e h = subst (λ (k : ℕ). Appended a c k old new) e h

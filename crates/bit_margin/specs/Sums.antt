@@ -1,6 +1,8 @@
 -- Least totals to a state and from a state.
-use Rattle.std.specs.Prelude.{◌≡◌, ℕ, ◌+◌, ◌*◌, ◌<◌, ◌≤◌, ◌^◌, Bool, min, List, [], ◌++◌, length, take, drop}
-use Rattle.std.specs.Prelude.{slice_index, slice_index_or}
+use Rattle.std.specs.Prelude.{◌≡◌, ℕ, ◌+◌, ◌*◌, ◌<◌, ◌≤◌, ◌^◌, Bool, List, [], ◌++◌, length, take, drop}
+use Rattle.std.specs.Prelude.{slice_index, slice_index_or, map}
+use Rattle.std.specs.List.{range_with_len}
+use Rattle.std.specs.Int.{abs_diff}
 use Rattle.std.specs.declared.option.Option.{Option}
 use Rattle.std.specs.declared.option.Option.TheVariants.{None, Some}
 use Rattle.code_paths.specs.declared.costs.CostPair.{CostPair}
@@ -22,6 +24,16 @@ pub record LeastFrom (d : List CostPair) (n m : ℕ) : Type 0 where
 -- these are the least totals from each state
 abbrev pub AreBackward : List CostPair → List ℕ → Type 0
 AreBackward d sums = (n : ℕ) → n < 64 → LeastFrom d n (slice_index sums n)
+
+-- 64 sums with a number added to each
+abbrev pub raised : ℕ → List ℕ → List ℕ
+raised less sums = map (λ n. slice_index sums n + less) (range_with_len 0 64)
+
+-- these are the least totals from each state, less one number, in 16 bits
+pub record AreLowBackward (d : List CostPair) (sums : List ℕ) : Type 0 where
+  pub less : ℕ
+  pub are : AreBackward d (raised less sums)
+  pub small : (n : ℕ) → n < 64 → slice_index sums n < 2 ^ 16
 
 -- the cost of a path if each start has a cost of its own
 abbrev pub with_start : List ℕ → List CostPair → List Bool → ℕ
@@ -55,13 +67,29 @@ pub record IsLeastOf (f : ℕ → ℕ) (n m : ℕ) : Type 0 where
   pub is : f place ≡ m
   pub least : (k : ℕ) → k < n → m ≤ f k
 
+-- these are the least totals to each state from any start, less one number, in 16 bits
+pub record AreLowForward (c : List CostPair) (sums : List ℕ) : Type 0 where
+  pub less : ℕ
+  pub first : List ℕ
+  pub starts : AreStartCosts Any first
+  pub are : AreForward first c (raised less sums)
+  pub small : (n : ℕ) → n < 64 → slice_index sums n < 2 ^ 16
+
+-- m is how far the least sums through the states with the newest bit 0 and 1 are apart
+pub record IsApart (before behind : List ℕ) (m : ℕ) : Type 0 where
+  pub zero : ℕ
+  pub one : ℕ
+  pub least_zero : IsLeastOf (λ k. slice_index before (k + 0) + slice_index behind (k + 0)) 32 zero
+  pub least_one : IsLeastOf (λ k. slice_index before (k + 32) + slice_index behind (k + 32)) 32 one
+  pub is : m ≡ abs_diff zero one
+
 -- row t
 abbrev pub row : List (List ℕ) → ℕ → List ℕ
 row rows t = slice_index_or rows t []
 
--- the rows below n are the backward sums, from the end of the window to the step after each row's own
+-- the rows below n are the backward sums, from the end of the window to the step after each row's own, less a number
 abbrev pub AreRows : List CostPair → ℕ → List (List ℕ) → Type 0
-AreRows c n rows = (t : ℕ) → t < n → AreBackward (drop (t + 1) c) (row rows t)
+AreRows c n rows = (t : ℕ) → t < n → AreLowBackward (drop (t + 1) c) (row rows t)
 
 -- the margins of the first n steps of window c were appended
 pub record Appended (a : Option (List Bool)) (c : List CostPair) (n : ℕ) (old new : List ℕ) : Type 0 where
@@ -69,11 +97,6 @@ pub record Appended (a : Option (List Bool)) (c : List CostPair) (n : ℕ) (old 
   pub is : new ≡ old ++ more
   pub long : length more ≡ n
   pub each : (t : ℕ) → t < n → IsMargin a c t (slice_index more t)
-
--- the rows are the backward sums, from the end of the window to the end of each part of 32 steps of the block of n
--- steps
-abbrev pub AreMarks : List CostPair → ℕ → List (List ℕ) → Type 0
-AreMarks c n marks = (i : ℕ) → i < 32 → AreBackward (drop (min (32 * (i + 1)) n) c) (row marks i)
 
 -- The first n steps of window c are done: these are the sums before the next step, and the margins were appended.
 pub record Passed (s : StartState) (c : List CostPair) (n : ℕ) (before old new : List ℕ) : Type 0 where

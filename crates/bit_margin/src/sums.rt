@@ -2,9 +2,10 @@
 ghost use Rattle.std.specs.Prelude.{◌≡◌, ◌+◌, ◌<◌, ◌≤◌, ◌^◌, ℕ, min, length, slice_index};
 ghost use Rattle.bit_margin.specs.Sums.{far, AreStartCosts, IsLeastOf};
 
+use crate::lanes16::LowStates;
 use inner_decoder::StartState;
 use std::simd::cmp::SimdOrd;
-use std::simd::u32x16;
+use std::simd::{u16x16, u32x16};
 
 /// A number for each state: the register of the inner code as a number below 64, its newest bit being bit 5.
 pub(crate) type States = [u32; 64];
@@ -39,8 +40,15 @@ pub(crate) fn start_costs(start: StartState) -> States
     }
 }
 
+/// Sixteen lanes in 32 bits.
+fn wide(lanes: u16x16) -> u32x16
+    ensures { result ≡ lanes }
+{
+    lanes.cast()
+}
+
 /// The sums through sixteen consecutive states: the cost up to each plus the cost after it.
-fn both(before: &[u32], behind: &[u32]) -> u32x16
+fn both(before: &[u32], behind: &[u16]) -> u32x16
     requires before_len { length before.now ≡ 16 }
     requires behind_len { length behind.now ≡ 16 }
     requires before_small { (k : ℕ) → k < 16 → slice_index before.now k ≤ 2 ^ 31 }
@@ -48,7 +56,7 @@ fn both(before: &[u32], behind: &[u32]) -> u32x16
     ensures len { length result ≡ 16 }
     ensures is { (k : ℕ) → k < 16 → slice_index result k ≡ slice_index before.now k + slice_index behind.now k }
 {
-    u32x16::from_slice(before) + u32x16::from_slice(behind)
+    u32x16::from_slice(before) + wide(u16x16::from_slice(behind))
 }
 
 /// The lower one of each two lanes.
@@ -73,7 +81,7 @@ fn least_lane(lanes: [u32; 16]) -> u32
 }
 
 /// The least sum of a path through one of 32 consecutive states.
-fn least_through(before: &[u32], behind: &[u32]) -> u32
+fn least_through(before: &[u32], behind: &[u16]) -> u32
     requires before_len { length before.now ≡ 32 }
     requires behind_len { length behind.now ≡ 32 }
     requires before_small { (k : ℕ) → k < 32 → slice_index before.now k ≤ 2 ^ 31 }
@@ -86,7 +94,7 @@ fn least_through(before: &[u32], behind: &[u32]) -> u32
 }
 
 /// The least sums of the paths through the states whose newest bit is 0, and 1, from the sums to and from each state.
-pub(crate) fn least_on(before: &States, behind: &States) -> (u32, u32)
+pub(crate) fn least_on(before: &States, behind: &LowStates) -> (u32, u32)
     requires small { (n : ℕ) → n < 64 → slice_index before.now n ≤ 2 ^ 31 }
     requires behind { (n : ℕ) → n < 64 → slice_index behind.now n ≤ 2 ^ 30 }
     ensures zero { IsLeastOf (λ k. slice_index before.now (k + 0) + slice_index behind.now (k + 0)) 32 result.0 }

@@ -1,10 +1,9 @@
 -- Each word is recovered or lost, so packets and counts exist.
-use Rattle.std.proofs.Common.{◌≡◌, ℕ, ◌<◌, ◌≤◌, List, take, ◌⊎◌, inl, inr, refl, subst, arith, length-take-le}
+use Rattle.std.proofs.Common.{◌≡◌, ℕ, zero, suc, ◌<◌, ◌≤◌, List, [], ◌∷◌, take, ◌⊎◌, inl, inr, refl, subst, arith, length-take-le}
 use Rattle.std.specs.Prelude.{Option, Some, None}
 use Rattle.std.proofs.lemmas.Bool.{cases_lt}
-use Rattle.rs204.specs.Codes.{codeword}
+use Rattle.rs204.specs.Codes.{AreBytes, codeword}
 use Rattle.rs204.specs.Laws.{MessageHasCodeword, CodewordIsOne}
-use Rattle.rs204.proofs.Horner.{take_bytes}
 use Rattle.rs_erasure.specs.Outside.{distance_outside, IsFarOutside}
 use Rattle.outer_chain.specs.Words.{word_at, IsNear, packets_to}
 use Rattle.code_paths.proofs.Deciding.{Decided}
@@ -16,6 +15,12 @@ use Rattle.rescue_words.specs.ByteMargins.{margins_at}
 use Rattle.rescue_words.specs.Recovery.{Recovery, IsRecovery}
 use Rattle.rescue_words.specs.Recovery.Recovery.{Nearest, Rescued, Lost}
 use Rattle.rescue_words.specs.Rescued.{RescueTally, Rescues, codewords, tally_to, known_words}
+
+-- the first bytes of a list of bytes
+take_bytes : (n : ℕ) (xs : List ℕ) → AreBytes xs → AreBytes (take n xs)
+take_bytes zero xs s = tt
+take_bytes (suc n) [] s = tt
+take_bytes (suc n) (x ∷ xs) s = (s.0, take_bytes n xs s.1)
 
 module _ (has : MessageHasCodeword) (one : CodewordIsOne) (places : SomeAreLeast) where
   -- a message whose codeword is close outside the erasures

@@ -1,6 +1,6 @@
 -- The output of a rescuing receiver, byte by byte.
-use Rattle.std.proofs.Common.{◌≡◌, ℕ, suc, ◌+◌, ◌-◌, ◌*◌, ◌/◌, ◌%◌, ◌<◌, ◌≤◌, Bool, not, cond, eqb, inl, inr, ◌⊎◌, List, [], ◌∷◌, ◌++◌, length, refl, sym, ◌∙◌, ap, ap₂, subst, arith, length-append, append-nil, true≢false}
-use Rattle.std.specs.Prelude.{Option, Some, None, is_some, unwrap_or, true, false, IsSome, IfSome, ◌↔◌}
+use Rattle.std.proofs.Common.{◌≡◌, ℕ, suc, ◌+◌, ◌-◌, ◌*◌, ◌/◌, ◌%◌, ◌<◌, ◌≤◌, Bool, not, cond, eqb, inl, inr, ◌⊎◌, List, [], ◌∷◌, ◌++◌, length, refl, sym, ◌∙◌, ap, ap₂, subst, arith, length-append, append-nil}
+use Rattle.std.specs.Prelude.{Option, Some, None, is_some, unwrap_or, true, false, IsTrue, ◌↔◌}
 use Rattle.std.proofs.lemmas.Bool.{cases_lt, ne_eqb, eq-eqb}
 use Rattle.rs204.specs.Codes.{distance}
 use Rattle.rs204.specs.declared.outcome.Outcome.TheVariants.{Clean, Corrected, Bad}
@@ -192,19 +192,18 @@ finishes old new bytes margins given tally b m word marks from to h r g ends w k
       };
     }
 
--- the same in the terms of the calls: the margins of the word are present exactly if one ends
-pub finishes_here : (old mid new : WordsState) (bytes margins given from to : List ℕ) (tally : RescueTally) (b m : ℕ) (word : List ℕ) (r : Option (List ℕ)) → Stands old bytes margins given tally
+-- the same in the terms of the calls: the margins of the word are known exactly if one ends
+pub finishes_here : (old mid new : WordsState) (bytes margins given from to : List ℕ) (tally : RescueTally) (b m : ℕ) (word marks : List ℕ) (known : Bool) → Stands old bytes margins given tally
     → Receives mid.outer (bytes ++ b ∷ []) → Holds mid.margins (margins ++ m ∷ []) → mid.outer.phase ≡ old.outer.phase → mid.counts ≡ old.counts
     → EndsWord (bytes ++ b ∷ []) → word ≡ word_at (bytes ++ b ∷ []) (word_count (bytes ++ b ∷ []) - 1)
-    → IsSome r ↔ (length (margins ++ m ∷ []) % 204 ≡ 0) → IfSome r (λ w. w ≡ values (deinterleaved (stream_of (margins ++ m ∷ []))) (204 * (length margins / 204)) 204)
+    → IsTrue known ↔ (length (margins ++ m ∷ []) % 204 ≡ 0) → (IsTrue known → marks ≡ values (deinterleaved (stream_of (margins ++ m ∷ []))) (204 * (length margins / 204)) 204)
     → new.margins ≡ mid.margins → ((z : List ℕ) → Receives mid.outer z → Receives new.outer z)
-    → IfSome r (λ w. IsFinished word w mid.outer.phase new.outer.phase from to mid.counts new.counts)
+    → (IsTrue known → IsFinished word marks mid.outer.phase new.outer.phase from to mid.counts new.counts)
     → Took new (bytes ++ b ∷ []) (margins ++ m ∷ []) given from to
-finishes_here old mid new bytes margins given from to tally b m word None h r g p c ends w some k same receives f =
-    absurd (true≢false (sym (some.1 (omega (arith, ends.0, h.as_many, length-append margins (m ∷ []), length-append bytes (b ∷ []))))))
-finishes_here old mid new bytes margins given from to tally b m word (Some marks) h r g p c ends w some k same receives f =
-    finishes old new bytes margins given tally b m word marks from to h (receives (bytes ++ b ∷ []) r) (subst (λ z. Holds z (margins ++ m ∷ [])) (sym same) g) ends w k
-    (subst (λ z. IsFinished word marks z new.outer.phase from to old.counts new.counts) p (subst (λ z. IsFinished word marks mid.outer.phase new.outer.phase from to z new.counts) c f))
+finishes_here old mid new bytes margins given from to tally b m word marks known h r g p c ends w some k same receives f =
+    let t : IsTrue known = some.1 (omega (arith, ends.0, h.as_many, length-append margins (m ∷ []), length-append bytes (b ∷ []))) in
+    finishes old new bytes margins given tally b m word marks from to h (receives (bytes ++ b ∷ []) r) (subst (λ z. Holds z (margins ++ m ∷ [])) (sym same) g) ends w (k t)
+    (subst (λ z. IsFinished word marks z new.outer.phase from to old.counts new.counts) p (subst (λ z. IsFinished word marks mid.outer.phase new.outer.phase from to z new.counts) c (f t)))
 
 -- at the start
 pub nothing_stands : (s : WordsState) → Receives s.outer [] → s.outer.phase ≡ None → Holds s.margins [] → s.counts ≡ record { words = 0; clean = 0; corrected = 0; rescued = 0; bad = 0; unphased = 0 }

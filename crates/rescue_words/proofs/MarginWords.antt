@@ -1,15 +1,12 @@
 -- The margins of a word, filled margin by margin.
-use Rattle.std.proofs.Common.{◌≡◌, ℕ, ◌+◌, ◌*◌, ◌/◌, ◌%◌, ◌<◌, ◌≤◌, List, [], ◌∷◌, ◌++◌, length, take, set, sym, ◌∙◌, ap, arith, length-append, length-take-le, length-set}
+use Rattle.std.proofs.Common.{◌≡◌, ℕ, ◌+◌, ◌*◌, ◌/◌, ◌%◌, ◌<◌, ◌≤◌, Bool, true, false, refl, List, [], ◌∷◌, ◌++◌, length, take, set, sym, ◌∙◌, ap, arith, length-append, length-take-le, length-set}
 use Rattle.std.proofs.lemmas.List.{take_all}
+use Rattle.std.specs.Prelude.{IsTrue, IsFalse}
 use Rattle.forney.specs.Values.{values, stream_of}
 use Rattle.forney.specs.Interleaving.{deinterleaved}
 use Rattle.forney.proofs.ValueLists.{length-values}
 use Rattle.outer_chain.proofs.Filling.{none_yet, word_grows, word_goes_on}
-use Rattle.rescue_words.specs.Carrying.{MarginDelays, MarginState, Carries, Holds}
-
--- a state from its parts
-abbrev pub made_of : MarginDelays → List ℕ → ℕ → MarginState
-made_of lines word filled = record { lines = lines; begun = take filled word }
+use Rattle.rescue_words.specs.Carrying.{MarginDelays, Carries, Holds, made_of}
 
 pub filled_is : (lines : MarginDelays) (word : List ℕ) (filled : ℕ) (margins : List ℕ) → length word ≡ 204 → filled < 204 → Holds (made_of lines word filled) margins → filled ≡ length margins % 204
 filled_is lines word filled margins long small h =
@@ -57,3 +54,11 @@ word_is old word filled z m margins long small last h g =
     sym (take_all (filled + 1) (set word filled z) (omega (arith, length-set word filled z, long, all)))
     ∙ word_grows word margins filled z m long small (filled_is old word filled margins long small h) (filling old word filled margins long small h) g
     ∙ ap (values (deinterleaved (stream_of (margins ++ m ∷ []))) (204 * (length margins / 204))) all
+
+-- at most 188 bytes for every 204 margins
+pub fill_amount : (known : Bool) (word longer : List ℕ) (filled next : ℕ) → length word ≡ 204 → length longer ≡ 204 → filled < 204 → next < 204 → (IsFalse known → next ≡ filled + 1) → (IsTrue known → (filled ≡ 203) × (next ≡ 0))
+    → (n m : ℕ) → m ≤ n + 188 → (IsFalse known → m ≡ n) → 204 * m + 188 * length (take next longer) ≤ 204 * n + 188 * (length (take filled word) + 1)
+fill_amount true word longer filled next lw ll lf ln f t n m few same =
+    omega (arith, length-take-le filled word (omega (arith, lw, lf)), length-take-le next longer (omega (arith, ll, ln)), (t refl).0, (t refl).1, few)
+fill_amount false word longer filled next lw ll lf ln f t n m few same =
+    omega (arith, length-take-le filled word (omega (arith, lw, lf)), length-take-le next longer (omega (arith, ll, ln)), f refl, same refl)

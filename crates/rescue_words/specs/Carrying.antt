@@ -1,5 +1,5 @@
 -- The contents of the delay lines of margins: four deinterleavers, one for each byte of a margin.
-use Rattle.std.specs.Prelude.{◌≡◌, ℕ, ◌*◌, ◌/◌, ◌%◌, ◌<◌, ◌^◌, List, length, map, All}
+use Rattle.std.specs.Prelude.{◌≡◌, ℕ, ◌*◌, ◌/◌, ◌%◌, ◌<◌, ◌^◌, List, length, map, take, All}
 use Rattle.forney.specs.Values.{values, stream_of}
 use Rattle.forney.specs.Interleaving.{deinterleaved}
 use Rattle.forney.specs.Delays.{Delays, Deinterleaves}
@@ -35,6 +35,10 @@ pub record Carries (lines : MarginDelays) (margins : List ℕ) : Type 0 where
 pub record MarginState : Type 0 where
   pub lines : MarginDelays
   pub begun : List ℕ
+
+-- the same if the margins of the unfinished word are the first `filled` of a list
+abbrev pub made_of : MarginDelays → List ℕ → ℕ → MarginState
+made_of lines word filled = record { lines = lines; begun = take filled word }
 
 -- the state after these margins of interleaved bytes
 pub record Holds (state : MarginState) (margins : List ℕ) : Type 0 where

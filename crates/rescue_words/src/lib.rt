@@ -7,13 +7,15 @@
 
 mod bytes;
 mod counts;
+mod fill;
 pub mod laws;
 mod lines;
+mod plain;
 mod recovery;
 mod words;
 
 pub use bytes::push_byte_margins;
 pub use counts::{RescueCounts, WordKind};
-pub use lines::MarginRx;
+pub use plain::MarginRx;
 pub use recovery::recover;
 pub use words::RescueWords;

@@ -1,5 +1,6 @@
 // Recovering a word: its nearest codeword, or one found by erasures.
 ghost use Rattle.std.specs.Prelude.{◌≡◌, ◌≤◌, ◌+◌, ◌<◌, ◌^◌, ◌++◌, ℕ, List, None, vec_len, vec_capacity, length};
+ghost use Rattle.std.specs.Prelude.{IsTrue, IsFalse};
 ghost use Rattle.std.specs.List.{All};
 ghost use Rattle.std.specs.List.Sorted.{IsStrictlyIncreasing};
 ghost use Rattle.bit_margin.specs.Places.{AreLeast};
@@ -101,4 +102,31 @@ pub(crate) fn finish_word(
     let packet = outer.finish_word(slot);
     count(counts, kind, packet.is_some());
     append_packet(&packet, to);
+}
+
+/// Finishes the word that a byte completed if the margins of its bytes are known.
+pub(crate) fn finish_known(
+    known: bool,
+    outer: &mut OuterRx,
+    slot: WordSlot,
+    margins: &[u32; 204],
+    counts: &mut RescueCounts,
+    to: &mut Vec<u8>,
+)
+    requires room { vec_len to.old + 188 ≤ vec_capacity to.old }
+    requires few { counts.old.words < 2 ^ 62 }
+    requires fit { AreFit counts.old }
+    ensures len { vec_len to.new ≤ vec_len to.old + 188 }
+    ensures capacity { vec_capacity to.new ≡ vec_capacity to.old }
+    ensures fit { AreFit counts.new }
+    ensures none { IsFalse known → to.new ≡ to.old }
+    ensures words { counts.new.words ≤ counts.old.words + 1 }
+    ensures receives { (bytes : List ℕ) → Receives outer.old bytes → Receives outer.new bytes }
+    ensures finished { IsTrue known → IsFinished slot.word margins.now outer.old.phase outer.new.phase to.old.items
+        to.new.items counts.old counts.new }
+{
+    if known {
+        let mut slot = slot;
+        finish_word(outer, &mut slot, margins, counts, to);
+    }
 }

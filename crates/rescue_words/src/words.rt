@@ -1,15 +1,13 @@
 // The outer code of a stream with rescue.
 ghost use Rattle.std.specs.Prelude.{◌≡◌, ◌+◌, ◌*◌, ◌<◌, ◌≤◌, ◌^◌, ◌++◌, ◌∷◌, [], ℕ, List, length, vec_len};
-ghost use Rattle.std.specs.Prelude.{vec_capacity, IfOk, IfSome, IsNone};
-ghost use Rattle.outer_chain.specs.Receiving.{Receives};
-ghost use Rattle.rescue_words.specs.Recovering.{IsFinished};
+ghost use Rattle.std.specs.Prelude.{vec_capacity, IfOk};
 ghost use Rattle.rescue_words.specs.Rescued.{RescueTally};
 ghost use Rattle.rescue_words.specs.Running.{Stands, Took};
 
 use crate::counts::{RescueCounts, no_counts};
-use crate::lines::MarginRx;
-use crate::recovery::finish_word;
-use outer_chain::{OuterRx, WordSlot};
+use crate::fill::MarginFill;
+use crate::recovery::finish_known;
+use outer_chain::OuterRx;
 use std::alloc::{AllocError, Global};
 use std::marker::Model;
 
@@ -20,19 +18,25 @@ use std::marker::Model;
 #[derive(Drop)]
 pub struct RescueWords {
     outer: OuterRx,
-    margins: MarginRx,
+    margins: MarginFill,
     counts: RescueCounts,
 }
 
 impl Model for RescueWords {
+    ghost use Rattle.std.specs.Prelude.{◌≡◌, ◌<◌, length};
+    ghost use Rattle.rescue_words.specs.Carrying.{made_of};
     ghost use Rattle.rescue_words.specs.Recovering.{AreFit};
     ghost use Rattle.rescue_words.specs.Running.{WordsState};
 
     ghost Value = { WordsState };
 
-    ghost view = { λ x. record { outer = x.outer; margins = x.margins; counts = x.counts } };
+    ghost view = { λ x. record {
+      outer = x.outer;
+      margins = made_of x.margins.lines x.margins.word x.margins.filled;
+      counts = x.counts;
+    } };
 
-    ghost invariant = { λ x. AreFit x.counts };
+    ghost invariant = { λ x. AreFit x.counts × (x.margins.filled < 204) × (length x.margins.word ≡ 204) };
 }
 
 impl RescueWords {
@@ -45,28 +49,9 @@ impl RescueWords {
     {
         Ok(RescueWords {
             outer: OuterRx::new(alloc)?,
-            margins: MarginRx::new(alloc)?,
+            margins: MarginFill::new(alloc)?,
             counts: no_counts(),
         })
-    }
-
-    /// Finishes the word that a byte completed, with the margins of its bytes, which are then known.
-    fn finish_word(&mut self, slot: WordSlot, margins: &Option<[u32; 204]>, to: &mut Vec<u8>)
-        requires room { vec_len to.old + 188 ≤ vec_capacity to.old }
-        requires few { self.old.counts.words < 2 ^ 62 }
-        ensures capacity { vec_capacity to.new ≡ vec_capacity to.old }
-        ensures margins { self.new.margins ≡ self.old.margins }
-        ensures len { vec_len to.new ≤ vec_len to.old + 188 }
-        ensures none { IsNone margins.now → to.new ≡ to.old }
-        ensures words { self.new.counts.words ≤ self.old.counts.words + 1 }
-        ensures receives { (bytes : List ℕ) → Receives self.old.outer bytes → Receives self.new.outer bytes }
-        ensures finished { IfSome margins.now (λ w. IsFinished slot.word w self.old.outer.phase self.new.outer.phase
-            to.old.items to.new.items self.old.counts self.new.counts) }
-    {
-        let mut slot = slot;
-        if let Some(margins) = margins {
-            finish_word(&mut self.outer, &mut slot, margins, &mut self.counts, to);
-        }
     }
 
     /// Takes the next interleaved byte and its margin, and appends the packet of the word that ends with it, if one
@@ -84,10 +69,17 @@ impl RescueWords {
         ensures took { (bytes margins given : List ℕ) (tally : RescueTally) → Stands self.old bytes margins given tally
             → Took self.new (bytes ++ byte ∷ []) (margins ++ margin ∷ []) given to.old.items to.new.items }
     {
-        let margins = self.margins.take(margin);
+        let ended = self.margins.put(margin);
         match self.outer.take_byte(byte) {
             None => {}
-            Some(slot) => self.finish_word(slot, &margins, to),
+            Some(slot) => finish_known(
+                ended,
+                &mut self.outer,
+                slot,
+                &self.margins.word,
+                &mut self.counts,
+                to,
+            ),
         }
     }
 

@@ -1,7 +1,7 @@
 use Rattle.std.proofs.Common.{refl, sym, subst, true≢false}
 use Rattle.rescue_words.specs.Carrying.{Holds}
 use Rattle.rescue_words.proofs.MarginWords.{goes_on, not_yet, begins_anew, ends_here, word_is}
-use Rattle.rescue_words.proofs.lines.MarginRx.take.Goals as goal
+use Rattle.rescue_words.proofs.plain.MarginRx.take.Goals as goal
 
 pub returns-then-self-lt-LAST-clause-holds : goal.returns-then-self-lt-LAST-clause-holds
 returns-then-self-lt-LAST-clause-holds c = λ margins h.
