@@ -83,39 +83,6 @@ fn take_rest<'a, X: SymbolWork<'a, S>, S: Station<'a>>(
     work.take(rest, station)
 }
 
-// Begins the work and passes on all cells. One whole symbol more than the limit is refused.
-fn take_all<'a, X: SymbolWork<'a, S>, S: Station<'a>>(
-    max_symbols: u32,
-    work: &mut X,
-    symbol: &mut [u8],
-    station: &mut S,
-) -> Result<(), RunError>
-    requires able { X.able }
-    requires attached { (S.meaning station.old).cells.attached ≡ true }
-    requires open { AreOpen (X.outputs (X.setup work.old)) (S.meaning station.old) }
-    requires size { length symbol.old ≡ (X.work (X.setup work.old)).size }
-    requires some { 0 < length symbol.old }
-    requires new { X.is_new work.old }
-    ensures setup { X.setup work.new ≡ X.setup work.old }
-    ensures others { KeepsOthers (S.meaning station.old) (S.meaning station.new) }
-    ensures cause { HasCause (S.meaning station.old) (S.meaning station.new) result }
-    ensures reason { HasReason (X.work (X.setup work.old)) result }
-    ensures later_report { (S.meaning station.old).report_faults ≤ (S.meaning station.new).report_faults }
-    ensures taken { TakesAtMost ((max_symbols + 1) * (X.work (X.setup work.old)).size) (S.meaning station.old)
-        (S.meaning station.new) }
-    ensures all { TakesAll (X.work (X.setup work.old)) (X.stands work.new) max_symbols
-        (S.meaning station.old).cells.left (S.meaning station.old) (S.meaning station.new) result }
-{
-    work.begin(station)?;
-    for number in 0..max_symbols {
-        let goes_on = take_next(number, work, symbol, station)?;
-        if !goes_on {
-            return Ok(());
-        }
-    }
-    take_rest(max_symbols, work, symbol, station)
-}
-
 // Ends the work after the cells taken.
 fn end<'a, X: SymbolWork<'a, S>, S: Station<'a>>(
     work: &mut X,
@@ -162,6 +129,13 @@ pub(crate) fn work_on_cells<'a, X: SymbolWork<'a, S>, S: Station<'a>>(
     ensures works { Works (X.work (X.setup work.old)) max_symbols (S.meaning station.old).cells.left
         (S.meaning station.old) (S.meaning station.new) result }
 {
-    take_all(max_symbols, work, symbol, station)?;
+    work.begin(station)?;
+    for number in 0..max_symbols {
+        let goes_on = take_next(number, work, symbol, station)?;
+        if !goes_on {
+            return end(work, station);
+        }
+    }
+    take_rest(max_symbols, work, symbol, station)?;
     end(work, station)
 }

@@ -2,7 +2,7 @@ use Rattle.std.proofs.Common.{◌≡◌, ◌≤◌, ◌*◌, true, ℕ, List, []
 use Rattle.station_core.specs.Meaning.{Meaning}
 use Rattle.cmd_cells.specs.Work.{AreOpen, Written}
 use Rattle.cmd_cells.specs.Cells.{IsWorking, KeepsOthers}
-use Rattle.cmd_cells.proofs.cells.take_all.Given as goal
+use Rattle.cmd_cells.proofs.cells.work_on_cells.Given as goal
 
 -- one symbol for each pass of the loop was taken, after the start of the work
 abbrev pub invariant-loop-number : goal.invariant-loop-number
