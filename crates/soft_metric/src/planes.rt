@@ -1,5 +1,6 @@
 // The weighted costs of all places of the labels of many cells.
-ghost use Rattle.std.specs.Prelude.{◌≡◌, ◌+◌, ◌-◌, ◌*◌, ◌/◌, ◌%◌, ◌<◌, ◌≤◌, ℕ, length, map, slice_index, slice_index_or};
+ghost use Rattle.std.specs.Prelude.{◌≡◌, ◌+◌, ◌-◌, ◌*◌, ◌/◌, ◌%◌, ◌<◌, ◌≤◌, ℕ, length, map, slice_index};
+ghost use Rattle.std.specs.Prelude.{slice_index_or};
 ghost use Rattle.mode_set.specs.Levels.{levels as levels_of};
 ghost use Rattle.mode_set.specs.StreamTable.{label_bits};
 ghost use Rattle.qam_map.specs.Points.{on_axis};

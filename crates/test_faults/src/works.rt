@@ -38,7 +38,8 @@ fn behind(lines: usize) -> Stands {
     (6, lines, (usize::MAX, 0))
 }
 
-// The calls that each of the three makes only once, and the last read, with these bytes written after it, and none more.
+// The calls that each of the three makes only once, and the last read, with these bytes written after it, and none
+// more.
 fn shared(all: usize) -> [(Failing, Stands); 7] {
     [
         (Attach(InPort::Hp, 1), read(0)),
