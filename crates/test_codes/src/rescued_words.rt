@@ -1,7 +1,7 @@
 // The outer code for disturbed bytes with their margins.
 use load_gen::Load;
 use outer_chain::OuterTx;
-use rescue_words::{RescueCounts, RescueWords};
+use rescue_words::{MarginRx, RescueCounts, RescueWords};
 use std::alloc::{AllocError, Global};
 use std::test::Fail;
 
@@ -119,6 +119,31 @@ fn inverted_run_word_by_word(rt: HostRuntime) -> Result<(), Fail> {
         }
     }
     assert_eq!(rt; word, 29);
+    Ok(())
+}
+
+// The place in the stream of a byte of a word, eleven words of start-up not counted.
+fn place_in_stream(word: usize, byte: usize) -> usize {
+    let from = 204 * word.min(100) + byte.min(203);
+    from + 204 * (from % 12)
+}
+
+// Each margin is the number of its byte in the stream: the plain program returns those of each word in the order of its
+// bytes.
+#[test]
+fn margins_of_whole_words(rt: HostRuntime) -> Result<(), Fail> {
+    let mut rx = MarginRx::new(rt.alloc())?;
+    let mut words = 0usize;
+    for place in 0..4080u32 {
+        if let Some(margins) = rx.take(place) {
+            for (byte, margin) in margins.iter().enumerate() {
+                let is_there = words < 11 || *margin as usize == place_in_stream(words - 11, byte);
+                assert!(rt; is_there, "word {words}, byte {byte}");
+            }
+            words = words.saturating_add(1);
+        }
+    }
+    assert_eq!(rt; words, 20);
     Ok(())
 }
 
