@@ -148,6 +148,13 @@ def recognised(samples, mode, guard):
     return mode, guard
 
 
+def put(data, to):
+    """Writes all of it to an unbuffered file, however often a signal cuts a write short."""
+    data = memoryview(data).cast("B")
+    while data:
+        data = data[to.write(data) :]
+
+
 def to_cells(mode, guard, level, kind, source, to):
     """Samples to a cell file."""
     part = np.dtype(KINDS[kind][0])
@@ -160,11 +167,10 @@ def to_cells(mode, guard, level, kind, source, to):
     if not (mode and guard):
         mode, guard = recognised(samples, mode, guard)
     front = FrontEnd(mode, guard, level)
-    to.write(header(mode))
+    put(header(mode), to)
     while len(samples):
         for cells in front.take(samples):
-            to.write(content(cells))
-            to.flush()
+            put(content(cells), to)
         samples = read(front.symbol * BLOCK)
 
 
@@ -185,7 +191,7 @@ def to_samples(mode, guard, clock, kind, source, to):
         spectrum[:, carriers % points] = (file["re"] + 1j * file["im"]) / 16384 * turned
         body = np.fft.ifft(spectrum) * points / count**0.5
         for symbol, step in zip(body, np.diff(steps, prepend=0).astype(int)):
-            to.write(sampled(np.concatenate([symbol[step - length :], symbol]), kind))
+            put(sampled(np.concatenate([symbol[step - length :], symbol]), kind), to)
         if not piece:
             return
         early = parts[-1] - steps[-1] if len(file) else early
@@ -235,7 +241,7 @@ def main(words):
         level, clock = float(level), float(clock)
         with open(0 if words[1] == "-" else words[1], "rb") as source:
             check(words[0], mode, source, words[2])
-            with open(1 if words[2] == "-" else words[2], "wb") as to:
+            with open(1 if words[2] == "-" else words[2], "wb", buffering=0) as to:
                 if words[0] == "cells":
                     to_cells(mode, guard, level, kind, source, to)
                 else:
