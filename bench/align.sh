@@ -4,12 +4,9 @@
 # 1/32, 8 MHz), the best of five runs, and whether OUT is the header and the cells from the next super-frame on.
 # usage: bench/align.sh [SUPERFRAMES] [PROGRAM WORDS..]
 set -eu
-top=$(cd "$(dirname "$0")/.." && pwd)
-frames=${1:-40}
-[ $# -gt 0 ] && shift
-. "$top/bench/program.sh"
-begin "$top" "$@"
-PYTHONPATH="$top/bench" python3 - "$folder" "$top/examples/settings/64qam.toml" "$top/examples/sample.ts" "$frames" "${program[@]}" <<'PY'
+. "$(dirname "$0")/program.sh"
+begin 40 -- "$@"
+python3 - "$folder" "$top/examples/settings/64qam.toml" "$top/examples/sample.ts" "${numbers[0]}" "${program[@]}" <<'PY'
 import subprocess, sys
 from timing import best
 folder, settings, sample, frames, *program = sys.argv[1:]

@@ -1,137 +1,85 @@
 #!/usr/bin/env python3
-"""Times GNU Radio's DVB-T blocks (gr-dtv) beside `dvbt`, both ways, in 8K on 64-QAM at rate 2/3, and prints processor seconds.
+"""Runs a chain of GNU Radio's blocks (gr-dtv, gr-fec) over the files of a folder, for bench/peers, and prints the processor seconds of its
+threads, without the start of Python.
 
-usage: bench/gnuradio_chains.py [--frames N] [--rounds N] [PROGRAM]
+usage: bench/gnuradio_chains.py transmitter|receiver|decoder 8k|2k FOLDER
 
-The same random packets, N super-frames of them (2), go through each transmitter, and each receiver takes the cells of `dvbt modulate`
-back to packets; the two of each pair run in turn, and the least of the rounds (3) counts. Of GNU Radio that is what its blocks take,
-without the start of Python. Its transmitter ends with the block of the reference signals, which makes samples without guard intervals;
-its receiver begins behind the synchronisation, with the carriers of each symbol. Its decoder decides hard. All files are in memory.
+transmitter: packets (MODE.ts) to the samples of each symbol, without guard intervals. receiver: the carriers of each symbol (points, as
+write_points writes them) to packets (theirs.ts), after synchronisation; its decoder decides hard. decoder: soft bits of the rate 1/2 code
+(soft) to bits of a byte each (theirs.bits). 8k is 64-QAM at 2/3, 2k QPSK at 1/2.
 
-PROGRAM, or else that of the sources as they stand. Not part of the gate. Needs numpy and GNU Radio 3.10 (Debian: python3-numpy,
-gnuradio), run by the python3 that has them, on Debian /usr/bin/python3.
+Needs GNU Radio 3.10 and numpy (Debian: gnuradio, python3-numpy), run by the python3 that has them, on Debian /usr/bin/python3.
 """
-import argparse
-import pathlib
-import random
-import subprocess
+import os
 import sys
-import tempfile
 import time
 
 import numpy as np
-from gnuradio import blocks, dtv, gr
+from gnuradio import blocks, dtv, fec, gr
 
-TOP = pathlib.Path(__file__).resolve().parent.parent
-sys.path.insert(0, str(TOP / "bench"))
-
-from timing import measure  # noqa: E402
-
-SETTINGS = str(TOP / "examples/settings/64qam.toml")
-CARRIERS, PAYLOAD, POINTS = 6817, 6048, 8192
-FIRST = (POINTS - CARRIERS + 1) // 2  # the place of carrier 0 among the points, the centre in the middle
-WORDS = 4032  # of a super-frame of these settings
-SHAPE = (PAYLOAD, dtv.MOD_64QAM, dtv.NH)
-SIGNALS = (dtv.MOD_64QAM, dtv.NH, dtv.C2_3, dtv.C2_3, dtv.GI_1_32, dtv.T8k, 0, 0)
+CELL = np.dtype([("re", ">i2"), ("im", ">i2"), ("weight", "u1")])
+# carriers, payload cells and points of a symbol, constellation, rate, mode
+MODES = {"8k": (6817, 6048, 8192, dtv.MOD_64QAM, dtv.C2_3, dtv.T8k), "2k": (1705, 1512, 2048, dtv.MOD_QPSK, dtv.C1_2, dtv.T2k)}
+FRAME = 8192  # bits that gr-fec decodes at once
 
 
-def transmitter(folder):
-    """From packets to the samples of each symbol."""
+def transmitter(name):
+    _, payload, points, shape, rate, mode = MODES[name]
     return [
-        blocks.file_source(1, f"{folder}/in.ts", False),
+        blocks.file_source(1, f"{name}.ts", False),
         dtv.dvbt_energy_dispersal(1),
         dtv.dvbt_reed_solomon_enc(2, 8, 0x11D, 255, 239, 8, 51, 8),
         dtv.dvbt_convolutional_interleaver(136, 12, 17),
-        dtv.dvbt_inner_coder(1, *SHAPE, dtv.C2_3),
-        dtv.dvbt_bit_inner_interleaver(*SHAPE, dtv.T8k),
-        dtv.dvbt_symbol_inner_interleaver(PAYLOAD, dtv.T8k, 1),
-        dtv.dvbt_map(*SHAPE, dtv.T8k, 1),
-        dtv.dvbt_reference_signals(gr.sizeof_gr_complex, PAYLOAD, POINTS, *SIGNALS),
-        blocks.file_sink(gr.sizeof_gr_complex * POINTS, f"{folder}/theirs.samples", False),
+        dtv.dvbt_inner_coder(1, payload, shape, dtv.NH, rate),
+        dtv.dvbt_bit_inner_interleaver(payload, shape, dtv.NH, mode),
+        dtv.dvbt_symbol_inner_interleaver(payload, mode, 1),
+        dtv.dvbt_map(payload, shape, dtv.NH, mode, 1),
+        dtv.dvbt_reference_signals(gr.sizeof_gr_complex, payload, points, shape, dtv.NH, rate, rate, dtv.GI_1_32, mode, 0, 0),
+        blocks.file_sink(gr.sizeof_gr_complex * points, "theirs.samples", False),
     ]
 
 
-def receiver(folder):
-    """From the carriers of each symbol to packets."""
+def receiver(name):
+    _, payload, points, shape, rate, mode = MODES[name]
     return [
-        blocks.file_source(gr.sizeof_gr_complex * POINTS, f"{folder}/points", False),
-        dtv.dvbt_demod_reference_signals(gr.sizeof_gr_complex, POINTS, PAYLOAD, *SIGNALS),
-        dtv.dvbt_demap(*SHAPE, dtv.T8k, 1),
-        dtv.dvbt_symbol_inner_interleaver(PAYLOAD, dtv.T8k, 0),
-        dtv.dvbt_bit_inner_deinterleaver(*SHAPE, dtv.T8k),
-        blocks.vector_to_stream(1, PAYLOAD),
-        dtv.dvbt_viterbi_decoder(dtv.MOD_64QAM, dtv.NH, dtv.C2_3, 768),
+        blocks.file_source(gr.sizeof_gr_complex * points, "points", False),
+        dtv.dvbt_demod_reference_signals(gr.sizeof_gr_complex, points, payload, shape, dtv.NH, rate, rate, dtv.GI_1_32, mode, 0, 0),
+        dtv.dvbt_demap(payload, shape, dtv.NH, mode, 1),
+        dtv.dvbt_symbol_inner_interleaver(payload, mode, 0),
+        dtv.dvbt_bit_inner_deinterleaver(payload, shape, dtv.NH, mode),
+        blocks.vector_to_stream(1, payload),
+        dtv.dvbt_viterbi_decoder(shape, dtv.NH, rate, 768),
         dtv.dvbt_convolutional_deinterleaver(136, 12, 17),
         dtv.dvbt_reed_solomon_dec(2, 8, 0x11D, 255, 239, 8, 51, 8),
         dtv.dvbt_energy_descramble(8),
-        blocks.file_sink(1, f"{folder}/theirs.ts", False),
+        blocks.file_sink(1, "theirs.ts", False),
     ]
 
 
-CHAINS = {"transmitter": transmitter, "receiver": receiver}
+def decoder(_name):
+    code = fec.cc_decoder.make(FRAME, 7, 2, [0x4F, 0x6D], 0, -1, fec.CC_TRUNCATED, False)
+    return [blocks.file_source(1, "soft", False), fec.decoder(code, 1, 1), blocks.file_sink(1, "theirs.bits", False)]
 
 
-def run_chain(name, folder):
-    """Runs a chain in this process, and prints the processor seconds of its threads."""
-    gr.logging().set_default_level(gr.log_levels.error)  # not how it chose its buffers
-    top = gr.top_block()
-    top.connect(*CHAINS[name](folder))
-    begun = time.process_time()
-    top.run()
-    print(time.process_time() - begun)
-
-
-def seconds_of_chain(name, folder):
-    words = [sys.executable, __file__, "--chain", name, folder]
-    return float(subprocess.run(words, stdout=subprocess.PIPE, text=True, check=True).stdout.split()[-1])
-
-
-def write_points(cells, to):
+def write_points(cells, name, to):
     """The carriers of a cell file among the points of a symbol, as GNU Radio has them."""
-    cell = np.dtype([("re", ">i2"), ("im", ">i2"), ("weight", "u1")])
-    file = np.fromfile(cells, cell, offset=8).reshape(-1, CARRIERS)
-    points = np.zeros((len(file), POINTS), np.complex64)
-    points[:, FIRST : FIRST + CARRIERS] = (file["re"] + 1j * file["im"]) / 16384
-    points.tofile(to)
-
-
-def packets_back(folder):
-    """How many packets GNU Radio gave, and whether they follow one another in what was sent."""
-    sent, back = (pathlib.Path(f"{folder}/{name}").read_bytes() for name in ("in.ts", "theirs.ts"))
-    at = sent.find(back[:188])
-    return len(back) // 188, bool(back) and at >= 0 and sent.startswith(back[: len(sent) - at], at)
+    carriers, _, points, *_ = MODES[name]
+    file = np.fromfile(cells, CELL, offset=8).reshape(-1, carriers)
+    first = (points - carriers + 1) // 2  # the place of carrier 0 among the points, the centre in the middle
+    found = np.zeros((len(file), points), np.complex64)
+    found[:, first : first + carriers] = (file["re"] + 1j * file["im"]) / 16384
+    found.tofile(to)
 
 
 def main():
-    asked = argparse.ArgumentParser(usage=__doc__.split("\n\n")[1])
-    asked.add_argument("--frames", type=int, default=2)
-    asked.add_argument("--rounds", type=int, default=3)
-    asked.add_argument("--chain", nargs=2)
-    asked.add_argument("program", nargs="?")
-    words = asked.parse_args()
-    if words.chain:
-        return run_chain(*words.chain)
-    program = words.program or measure([str(TOP / "bin/dvbt"), "--program"])[2].strip()
-    with tempfile.TemporaryDirectory(dir="/dev/shm") as folder:
-        random.seed(1)
-        count = WORDS * words.frames - 11
-        pathlib.Path(f"{folder}/in.ts").write_bytes(b"".join(b"\x47" + random.randbytes(187) for _ in range(count)))
-        ways = {
-            "transmitter": ["modulate", SETTINGS, f"{folder}/in.ts", f"{folder}/cells"],
-            "receiver": ["receive", SETTINGS, f"{folder}/cells", f"{folder}/ours.ts"],
-        }
-        for name, own in ways.items():
-            ours, theirs = [], []
-            for _ in range(words.rounds):
-                ours.append(measure([program, *own])[1])
-                if name == "receiver" and len(ours) == 1:
-                    write_points(f"{folder}/cells", f"{folder}/points")
-                theirs.append(seconds_of_chain(name, folder))
-            rates = [count * 1504 / min(each) / 1e6 for each in (ours, theirs)]
-            print(f"{name}: dvbt {own[0]} {rates[0]:.1f}, GNU Radio {rates[1]:.1f} Mbit/s a processor second, {rates[0] / rates[1]:.1f} times")
-        back, is_run = packets_back(folder)
-        print(f"GNU Radio received {back} packets of {count}, {'in a row' if is_run else 'NOT in a row'}")
-    sys.exit(0 if is_run else 1)
+    chain, name, folder = sys.argv[1:]
+    os.chdir(folder)
+    gr.logging().set_default_level(gr.log_levels.error)  # not how it chose its buffers
+    top = gr.top_block()
+    top.connect(*{"transmitter": transmitter, "receiver": receiver, "decoder": decoder}[chain](name))
+    begun = time.process_time()
+    top.run()
+    print(time.process_time() - begun)
 
 
 if __name__ == "__main__":

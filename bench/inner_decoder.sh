@@ -235,10 +235,11 @@ use Rattle.bench_inner.proofs.run.Given as goal
 abbrev pub invariant-loop-k : goal.invariant-loop-k
 invariant-loop-k g l = (l.branch.most ≡ 30000) × (l.branch.loaded ≡ []) × (l.branch.decoder.ended ≡ false) × (l.branch.decoder.steps ≤ 30000 * l._k)
 END
-cat > proofs/push_all/Invariants.antt <<'END'
+for name in push_all run_margins; do
+  cat > "proofs/$name/Invariants.antt" <<END
 use Rattle.std.proofs.Common.{◌≡◌, ◌<◌, length}
 use Rattle.std.specs.Prelude.{false, vec_len, vec_capacity}
-use Rattle.bench_inner.proofs.push_all.Given as goal
+use Rattle.bench_inner.proofs.$name.Given as goal
 
 abbrev pub invariant-loop-k : goal.invariant-loop-k
 invariant-loop-k l = record {
@@ -248,19 +249,7 @@ invariant-loop-k l = record {
   spare : vec_capacity l.to ≡ 1024;
 }
 END
-cat > proofs/run_margins/Invariants.antt <<'END'
-use Rattle.std.proofs.Common.{◌≡◌, ◌<◌, length}
-use Rattle.std.specs.Prelude.{false, vec_len, vec_capacity}
-use Rattle.bench_inner.proofs.run_margins.Given as goal
-
-abbrev pub invariant-loop-k : goal.invariant-loop-k
-invariant-loop-k l = record {
-  going : l.margins.ended ≡ false;
-  room : length l.margins.waiting < 1280;
-  empty : vec_len l.to ≡ 0;
-  spare : vec_capacity l.to ≡ 1024;
-}
-END
+done
 cat > proofs/Lib.antt <<'END'
 
 END

@@ -24,6 +24,23 @@ copy_crates() { # this repository, the scratch folder, the crates
   done
 }
 
+# Makes such a repository with one more crate, the program in this file over these crates, and enters its folder.
+crate_of() { # this repository, the scratch folder, the crate, the file, the crates below
+  copy_crates "$1" "$2" "${@:5}"
+  mkdir -p "$2/crates/$3/src"
+  echo "$3: ${*:5}" >> "$2/crates.txt"
+  cp "$4" "$2/crates/$3/src/main.rt"
+  cd "$2/crates/$3"
+}
+
+# Proves and builds the program in the folder, and runs it once. Shows the errors alone.
+build() { # flags of rt run
+  rt run "$@" > out.log 2>&1 || {
+    grep -v '^statements\|^logic \|^library' out.log | tail -20
+    exit 1
+  }
+}
+
 with_those_below() { # this repository, the crates
   python3 - "$@" <<'END'
 import sys

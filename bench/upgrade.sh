@@ -5,12 +5,9 @@
 # weight 15.
 # usage: bench/upgrade.sh [SUPERFRAMES] [PROGRAM WORDS..]
 set -eu
-top=$(cd "$(dirname "$0")/.." && pwd)
-frames=${1:-40}
-[ $# -gt 0 ] && shift
-. "$top/bench/program.sh"
-begin "$top" "$@"
-PYTHONPATH="$top/bench" python3 - "$folder" "$top/examples/settings/64qam.toml" "$frames" "${program[@]}" <<'PY'
+. "$(dirname "$0")/program.sh"
+begin 40 -- "$@"
+python3 - "$folder" "$top/examples/settings/64qam.toml" "${numbers[0]}" "${program[@]}" <<'PY'
 import os, random, sys
 from timing import best
 folder, settings, frames, *program = sys.argv[1:]

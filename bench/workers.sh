@@ -6,12 +6,9 @@
 # in turn.
 # usage: bench/workers.sh [NOISE] [PROGRAM WORDS..]
 set -eu
-top=$(cd "$(dirname "$0")/.." && pwd)
-noise=${1:-1200}
-[ $# -gt 0 ] && shift
-. "$top/bench/program.sh"
-begin "$top" "$@"
-PYTHONPATH="$top/bench" python3 - "$folder" "$noise" "${program[@]}" <<'PY'
+. "$(dirname "$0")/program.sh"
+begin 1200 -- "$@"
+python3 - "$folder" "${numbers[0]}" "${program[@]}" <<'PY'
 import array, os, random, sys
 from timing import measure
 folder, noise, *program = sys.argv[1:]

@@ -2,24 +2,23 @@
 
 Needs numpy (Debian: python3-numpy).
 """
-import os
 import pathlib
 import shlex
 import subprocess
 import sys
 
+TOP = pathlib.Path(__file__).resolve().parent.parent
+sys.path.insert(0, str(TOP / "tools"))
+from cell_tools.interpreter import try_debian  # noqa: E402
+from cell_tools.svg import Axis, Curve, plot  # noqa: E402
+
 try:
     import numpy as np
 except ImportError as error:
-    DEBIAN = "/usr/bin/python3"
-    if os.path.exists(DEBIAN) and os.path.realpath(sys.executable) != os.path.realpath(DEBIAN):
-        os.execv(DEBIAN, [DEBIAN, *sys.argv])
+    try_debian()
     sys.exit(f"{sys.argv[0]}: {error}; it needs numpy (Debian: python3-numpy)")
 
-TOP = pathlib.Path(__file__).resolve().parent.parent
 DOOR = f"{TOP}/bin/dvbt -q"
-sys.path.insert(0, str(TOP / "tools"))
-from cell_tools.svg import Axis, Curve, plot  # noqa: E402
 
 HEADER = b"DVTC\x02\x00\x00\x00"  # of a file of the 2K mode
 CARRIERS = 1705

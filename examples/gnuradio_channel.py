@@ -19,17 +19,17 @@ import subprocess
 import sys
 import tempfile
 
-DEBIAN = "/usr/bin/python3"
 TOP = pathlib.Path(__file__).resolve().parent.parent
 sys.path[:0] = [str(TOP / "tools"), str(TOP / "bench")]
+from cell_tools.interpreter import try_debian  # noqa: E402
+
 try:
     import numpy as np
     from cell_tools.standard import Carriers
     from gnuradio import blocks, dtv, gr
     import gnuradio_receiver
 except ImportError as error:
-    if os.path.exists(DEBIAN) and os.path.realpath(sys.executable) != os.path.realpath(DEBIAN):
-        os.execv(DEBIAN, [DEBIAN, *sys.argv])
+    try_debian()
     print(f"gnuradio_channel.py: passed over: GNU Radio or numpy is not installed ({error})")
     sys.exit(0)
 

@@ -9,22 +9,21 @@ came back in a row, and how many packets were on their way at most. Ends with 0 
 where GNU Radio 3.10 or numpy is not installed (Debian: gnuradio, python3-numpy). Each part `# %%` is a cell for editors that know them.
 """
 # %% What is needed
-import os
 import pathlib
 import random
 import sys
 import tempfile
 
-DEBIAN = "/usr/bin/python3"
 TOP = pathlib.Path(__file__).resolve().parent.parent
-sys.path.insert(0, str(TOP / "python"))
+sys.path[:0] = [str(TOP / "tools"), str(TOP / "python")]
+from cell_tools.interpreter import try_debian  # noqa: E402
+
 try:
     from gnuradio import analog, blocks, digital, fft, gr
 
     import dvbt.gnuradio
 except ImportError as error:
-    if os.path.exists(DEBIAN) and os.path.realpath(sys.executable) != os.path.realpath(DEBIAN):
-        os.execv(DEBIAN, [DEBIAN, *sys.argv])
+    try_debian()
     print(f"gnuradio_live.py: passed over: GNU Radio or numpy is not installed ({error})")
     sys.exit(0)
 

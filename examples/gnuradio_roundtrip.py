@@ -16,17 +16,18 @@ import subprocess
 import sys
 import tempfile
 
-DEBIAN = "/usr/bin/python3"
+TOP = pathlib.Path(__file__).resolve().parent.parent
+sys.path.insert(0, str(TOP / "tools"))
+from cell_tools.interpreter import try_debian  # noqa: E402
+
 try:
     import numpy as np
     from gnuradio import blocks, dtv, gr
 except ImportError as error:
-    if os.path.exists(DEBIAN) and os.path.realpath(sys.executable) != os.path.realpath(DEBIAN):
-        os.execv(DEBIAN, [DEBIAN, *sys.argv])
+    try_debian()
     print(f"gnuradio_roundtrip.py: passed over: GNU Radio or numpy is not installed ({error})")
     sys.exit(0)
 
-TOP = pathlib.Path(__file__).resolve().parent.parent
 CARRIERS, PAYLOAD, POINTS = 1705, 1512, 2048  # of the 2K mode
 SETTINGS = 'mode = "2k"\nconstellation = "qpsk"\nrate_hp = "1/2"\nguard = "1/32"\ncell_id = 0\n'
 SHAPE = (PAYLOAD, dtv.MOD_QPSK, dtv.NH)

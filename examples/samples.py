@@ -17,15 +17,15 @@ import pathlib
 import stat
 import sys
 
-DEBIAN = "/usr/bin/python3"
 TOP = pathlib.Path(__file__).resolve().parent.parent
 sys.path.insert(0, str(TOP / "tools"))
+from cell_tools.interpreter import try_debian  # noqa: E402
+
 try:
     import numpy as np
     from cell_tools.standard import Carriers
 except ImportError as error:
-    if os.path.exists(DEBIAN) and os.path.realpath(sys.executable) != os.path.realpath(DEBIAN):
-        os.execv(DEBIAN, [DEBIAN, *sys.argv])
+    try_debian()
     sys.exit(f"samples.py: {error}; it needs numpy (Debian: python3-numpy)")
 
 CELL = np.dtype([("re", ">i2"), ("im", ">i2"), ("weight", "u1")])

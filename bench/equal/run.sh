@@ -6,13 +6,7 @@
 # usage: bench/equal/run.sh [flags of rt run, as --cpu x86-64-v3]
 set -e
 here="$(cd "$(dirname "$0")" && pwd)"
-top="$(cd "$here/../.." && pwd)"
-scratch="${SCRATCH:-/tmp/bench-equal}"
-. "$top/bench/scratch.sh"
-copy_crates "$top" "$scratch" mode_set pilots qam_map cell_equal
-mkdir -p "$scratch/crates/bench_equal/src"
-echo "bench_equal: anyhow mode_set pilots qam_map cell_equal" >> "$scratch/crates.txt"
-cp "$here/equal.txt" "$scratch/crates/bench_equal/src/main.rt"
-cd "$scratch/crates/bench_equal"
-rt run "$@" > out.log 2>&1 || { grep -v '^statements\|^logic ' out.log | tail -20; exit 1; }
+. "$here/../scratch.sh"
+crate_of "$here/../.." "${SCRATCH:-/tmp/bench-equal}" bench_equal "$here/equal.txt" anyhow mode_set pilots qam_map cell_equal
+build "$@"
 for _ in 1 2 3 4 5; do out/bench_equal; done | sort -t' ' -k1,1 -k2,2n | awk '!seen[$1]++ { printf "%s %d ps a cell, %.1f times real time\n", $1, $2, 1e12 / ($2 * 1082 * 6817) }'

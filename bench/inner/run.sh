@@ -4,18 +4,10 @@
 # With `try` it is run without any proof.
 set -e
 here="$(cd "$(dirname "$0")" && pwd)"
-top="$(cd "$here/../.." && pwd)"
-scratch="${SCRATCH:-/tmp/bench-inner}"
-which="${1:-bytes}"
-case "$which" in
-  bytes) deps="anyhow arrayvec mode_set bit_pack puncture" ;;
-  *) echo "usage: bench/inner/run.sh bytes [try]" >&2; exit 2 ;;
-esac
-. "$top/bench/scratch.sh"
-# shellcheck disable=SC2086 # a list of names
-copy_crates "$top" "$scratch" $deps
-mkdir -p "$scratch/crates/bench_inner/src"
-echo "bench_inner: $deps" >> "$scratch/crates.txt"
-cp "$here/$which.txt" "$scratch/crates/bench_inner/src/main.rt"
-cd "$scratch/crates/bench_inner"
+if [ "${1:-bytes}" != bytes ]; then
+  echo "usage: bench/inner/run.sh bytes [try]" >&2
+  exit 2
+fi
+. "$here/../scratch.sh"
+crate_of "$here/../.." "${SCRATCH:-/tmp/bench-inner}" bench_inner "$here/bytes.txt" anyhow arrayvec mode_set bit_pack puncture
 rt "${2:-run}"

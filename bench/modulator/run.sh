@@ -4,15 +4,12 @@
 # LLVM, and runs it three times. Usage: bench/modulator/run.sh [FOLDER]
 set -eu
 here="$(cd "$(dirname "$0")" && pwd)"
-top="$(cd "$here/../.." && pwd)"
 to=${1:-$(mktemp -d)}
-. "$top/bench/scratch.sh"
-copy_crates "$top" "$to" mode_set ts_packet modulator
-mkdir -p "$to/crates/bench_modulator/src" "$to/crates/bench_modulator/proofs/transmit"
-echo "bench_modulator: anyhow mode_set ts_packet modulator" >> "$to/crates.txt"
-cp "$here/modulator.txt" "$to/crates/bench_modulator/src/main.rt"
-: > "$to/crates/bench_modulator/proofs/Lib.antt"
-cat > "$to/crates/bench_modulator/proofs/transmit/Invariants.antt" <<'END'
+. "$here/../scratch.sh"
+crate_of "$here/../.." "$to" bench_modulator "$here/modulator.txt" anyhow mode_set ts_packet modulator
+mkdir -p proofs/transmit
+: > proofs/Lib.antt
+cat > proofs/transmit/Invariants.antt <<'END'
 use Rattle.std.proofs.Common.{◌≤◌}
 use Rattle.std.specs.Prelude.{vec_capacity}
 use Rattle.bench_modulator.proofs.transmit.Given as goal
@@ -20,13 +17,13 @@ use Rattle.bench_modulator.proofs.transmit.Given as goal
 abbrev pub invariant-loop : goal.invariant-loop
 invariant-loop l = 34085 ≤ vec_capacity l.to
 END
-(cd "$to/crates/bench_modulator" && rt run > "$to/log" 2>&1 || { grep -v '^statements\|^logic \|^library' "$to/log" | tail -20; exit 1; })
-python3 - "$to" <<'PY'
-import resource, subprocess, sys
+build
+python3 - <<'PY'
+import resource, subprocess
 best = None
 for _ in range(3):
     before = resource.getrusage(resource.RUSAGE_CHILDREN)
-    subprocess.run([f"{sys.argv[1]}/crates/bench_modulator/out/bench_modulator"], check=True, stdout=subprocess.DEVNULL)
+    subprocess.run(["out/bench_modulator"], check=True, stdout=subprocess.DEVNULL)
     after = resource.getrusage(resource.RUSAGE_CHILDREN)
     spent = after.ru_utime + after.ru_stime - before.ru_utime - before.ru_stime
     best = spent if best is None else min(best, spent)

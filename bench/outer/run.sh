@@ -4,19 +4,13 @@
 # Usage: bench/outer/run.sh [rs204|chain|erasures]
 set -e
 here="$(cd "$(dirname "$0")" && pwd)"
-top="$(cd "$here/../.." && pwd)"
-scratch="${SCRATCH:-/tmp/bench-outer}"
 which="${1:-rs204}"
 case "$which" in
-  rs204) deps="anyhow rs204" ;;
-  chain) deps="anyhow ts_packet rs204 outer_chain" ;;
-  erasures) deps="anyhow rs204 rs_erasure" ;;
+  rs204) crates=(rs204) ;;
+  chain) crates=(ts_packet rs204 outer_chain) ;;
+  erasures) crates=(rs204 rs_erasure) ;;
+  *) echo "usage: bench/outer/run.sh [rs204|chain|erasures]" >&2; exit 2 ;;
 esac
-. "$top/bench/scratch.sh"
-# shellcheck disable=SC2086 # a list of names
-copy_crates "$top" "$scratch" $deps
-mkdir -p "$scratch/crates/bench_$which/src"
-echo "bench_$which: $deps" >> "$scratch/crates.txt"
-cp "$here/$which.txt" "$scratch/crates/bench_$which/src/main.rt"
-cd "$scratch/crates/bench_$which"
+. "$here/../scratch.sh"
+crate_of "$here/../.." "${SCRATCH:-/tmp/bench-outer}" "bench_$which" "$here/$which.txt" anyhow "${crates[@]}"
 rt run

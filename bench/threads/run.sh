@@ -6,13 +6,7 @@
 # usage: bench/threads/run.sh [flags of rt run, as --cpu x86-64-v3]
 set -e
 here="$(cd "$(dirname "$0")" && pwd)"
-top="$(cd "$here/../.." && pwd)"
-scratch="${SCRATCH:-/tmp/bench-threads}"
-. "$top/bench/scratch.sh"
-copy_crates "$top" "$scratch" anyhow
-mkdir -p "$scratch/crates/bench_threads/src"
-echo "bench_threads: anyhow" >> "$scratch/crates.txt"
-cp "$here/threads.txt" "$scratch/crates/bench_threads/src/main.rt"
-cd "$scratch/crates/bench_threads"
-rt run "$@" > out.log 2>&1 || { grep -v '^statements\|^logic ' out.log | tail -20; exit 1; }
+. "$here/../scratch.sh"
+crate_of "$here/../.." "${SCRATCH:-/tmp/bench-threads}" bench_threads "$here/threads.txt" anyhow
+build "$@"
 time (for _ in 1 2 3 4 5; do out/bench_threads; done | sort -t: -k1,1 -k2,2n | awk -F: '!seen[$1]++')

@@ -5,15 +5,9 @@
 # usage: bench/track_cells/run.sh [flags of rt run, as --cpu x86-64-v3]
 set -e
 here="$(cd "$(dirname "$0")" && pwd)"
-top="$(cd "$here/../.." && pwd)"
-scratch="${SCRATCH:-/tmp/bench-track-cells}"
-. "$top/bench/scratch.sh"
-copy_crates "$top" "$scratch" mode_set qam_map track_arithmetic track_cells
-mkdir -p "$scratch/crates/bench_track_cells/src"
-echo "bench_track_cells: anyhow mode_set qam_map track_arithmetic track_cells" >> "$scratch/crates.txt"
-cp "$here/cells.txt" "$scratch/crates/bench_track_cells/src/main.rt"
-mkdir -p "$scratch/crates/bench_track_cells/proofs/fill"
-cp "$here/Invariants.txt" "$scratch/crates/bench_track_cells/proofs/fill/Invariants.antt"
-cd "$scratch/crates/bench_track_cells"
-rt run "$@" > out.log 2>&1 || { grep -v '^statements\|^logic ' out.log | tail -20; exit 1; }
+. "$here/../scratch.sh"
+crate_of "$here/../.." "${SCRATCH:-/tmp/bench-track-cells}" bench_track_cells "$here/cells.txt" anyhow mode_set qam_map track_arithmetic track_cells
+mkdir -p proofs/fill
+cp "$here/Invariants.txt" proofs/fill/Invariants.antt
+build "$@"
 for _ in 1 2 3 4 5; do out/bench_track_cells; done | sort -k1,1 -k3,3n | awk '!seen[$1]++'

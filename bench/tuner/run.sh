@@ -4,13 +4,8 @@
 # there by LLVM, and runs it. Usage: bench/tuner/run.sh [FOLDER] [flags of rt run, as --cpu x86-64-v3]
 set -eu
 here="$(cd "$(dirname "$0")" && pwd)"
-top="$(cd "$here/../.." && pwd)"
 to=${1:-$(mktemp -d)}
 [ $# -gt 0 ] && shift
-. "$top/bench/scratch.sh"
-copy_crates "$top" "$to" mode_set qam_map tps_word tune_in
-mkdir -p "$to/crates/bench_tuner/src"
-echo "bench_tuner: anyhow mode_set qam_map tps_word tune_in" >> "$to/crates.txt"
-cp "$here/tuner.txt" "$to/crates/bench_tuner/src/main.rt"
-cd "$to/crates/bench_tuner"
+. "$here/../scratch.sh"
+crate_of "$here/../.." "$to" bench_tuner "$here/tuner.txt" anyhow mode_set qam_map tps_word tune_in
 rt run "$@"

@@ -209,3 +209,27 @@ bytes_more to rest left b i l e =
     let more : take (i + 1) (set to i b) ≡ take i to ++ b ∷ [] = take_more (set to i b) i 0 (omega (arith, l, length-set to i b)) ∙ ap₂ (λ x y. x ++ y ∷ []) (take-set to i b) (get_or-set_same to i b 0 l) in
     ap (λ z. bits_of_bytes (take i to) ++ z) e ∙ sym (append_assoc (bits_of_bytes (take i to)) (spelled 8 b) rest)
     ∙ ap (λ z. z ++ rest) (sym (bits_push (take i to) b)) ∙ ap (λ z. bits_of_bytes z ++ rest) (sym more)
+
+-- a shifted byte more
+pub shifted_more : (front : List Bool) (xs to : List ℕ) (last whole n k : ℕ) → k < length xs → length to ≡ length xs → front ++ bits_of_bytes (take k xs) ≡ bits_of_bytes (take k to) ++ spelled n last
+    → spelled 8 whole ++ spelled n (get_or xs k 0) ≡ spelled n last ++ spelled 8 (get_or xs k 0) → front ++ bits_of_bytes (take (k + 1) xs) ≡ bits_of_bytes (take (k + 1) (set to k whole)) ++ spelled n (get_or xs k 0)
+shifted_more front xs to last whole n k l size h e =
+    let byte = get_or xs k 0 in
+    let more : take (k + 1) (set to k whole) ≡ take k to ++ whole ∷ [] = take_more (set to k whole) k 0 (omega (arith, l, size, length-set to k whole)) ∙ ap₂ (λ x y. x ++ y ∷ []) (take-set to k whole) (get_or-set_same to k whole 0 (omega (arith, l, size))) in
+    ap (λ z. front ++ z) (ap bits_of_bytes (take_more xs k 0 l) ∙ bits_push (take k xs) byte)
+    ∙ sym (append_assoc front (bits_of_bytes (take k xs)) (spelled 8 byte)) ∙ ap (λ z. z ++ spelled 8 byte) h
+    ∙ append_assoc (bits_of_bytes (take k to)) (spelled n last) (spelled 8 byte) ∙ ap (λ z. bits_of_bytes (take k to) ++ z) (sym e)
+    ∙ sym (append_assoc (bits_of_bytes (take k to)) (spelled 8 whole) (spelled n byte))
+    ∙ ap (λ z. z ++ spelled n byte) (sym (ap bits_of_bytes more ∙ bits_push (take k to) whole))
+
+-- shifted bytes behind those of a ring
+pub ring_shifted : (xs new part shifted : List ℕ) (f c n back left : ℕ) → ring new f (c + length part) ≡ ring xs f c ++ shifted → spelled n back ++ bits_of_bytes part ≡ bits_of_bytes shifted ++ spelled n left
+    → bits_of_bytes (ring new f (c + length part)) ++ spelled n left ≡ (bits_of_bytes (ring xs f c) ++ spelled n back) ++ bits_of_bytes part
+ring_shifted xs new part shifted f c n back left e h =
+    ap (λ z. bits_of_bytes z ++ spelled n left) e ∙ ap (λ z. z ++ spelled n left) (bits_append (ring xs f c) shifted)
+    ∙ append_assoc (bits_of_bytes (ring xs f c)) (bits_of_bytes shifted) (spelled n left)
+    ∙ ap (λ z. bits_of_bytes (ring xs f c) ++ z) (sym h) ∙ sym (append_assoc (bits_of_bytes (ring xs f c)) (spelled n back) (bits_of_bytes part))
+
+-- the queue with them
+pub queue_shifted : (front ring more : List Bool) (new part : List Bool) → new ≡ (ring ++ more) ++ part → front ++ new ≡ (front ++ (ring ++ more)) ++ part
+queue_shifted front ring more new part e = ap (λ z. front ++ z) e ∙ sym (append_assoc front (ring ++ more) part)

@@ -101,6 +101,14 @@ fn pop_whole(bytes: &[u8], first: usize) -> (u8, usize)
     }
 }
 
+/// Where a ring begins: an empty one at its least index.
+fn first_of(first: usize, count: usize) -> usize
+    ensures within { result ≤ first }
+    ensures same { (bytes : List ℕ) → ring bytes result count ≡ ring bytes first count }
+{
+    if count == 0 { 0 } else { first }
+}
+
 /// The bytes of a part of a ring that does not go round the end.
 fn copy_part(bytes: &[u8], first: usize, to: &mut [u8])
     requires room { first + length to.old ≤ length bytes.now }
@@ -118,6 +126,43 @@ fn paste_part(bytes: &mut [u8], first: usize, count: usize, part: &[u8])
     ensures pushed { ring bytes.new first (count + length part.now) ≡ ring bytes.old first count ++ part.now }
 {
     bytes[first + count..first + count + part.len()].copy_from_slice(part);
+}
+
+/// Writes bytes whose first bits are the lowest `back_len` of `back`, each byte's bits after those of the one before.
+/// Returns the byte whose lowest `back_len` bits are left.
+fn shift_part(back: u8, back_len: u8, part: &[u8], to: &mut [u8]) -> u8
+    requires few { back_len < 8 }
+    requires size { length to.old ≡ length part.now }
+    ensures size { length to.new ≡ length to.old }
+    ensures bits { spelled back_len back ++ bits_of_bytes part.now ≡ bits_of_bytes to.new ++ spelled back_len result }
+{
+    let mut last = back;
+    for k in 0..part.len() {
+        let byte = part[k];
+        to[k] = first_eight(last, back_len, byte, 8);
+        last = byte;
+    }
+    last
+}
+
+/// Puts bytes behind those of a ring and the lowest `back_len` bits of `back`, if they do not go round the end. Returns
+/// the byte whose lowest `back_len` bits are left.
+fn paste_shifted(
+    bytes: &mut [u8],
+    first: usize,
+    count: usize,
+    back: u8,
+    back_len: u8,
+    part: &[u8],
+) -> u8
+    requires few { back_len < 8 }
+    requires room { first + count + length part.now ≤ length bytes.old }
+    ensures size { length bytes.new ≡ length bytes.old }
+    ensures pushed { bits_of_bytes (ring bytes.new first (count + length part.now)) ++ spelled back_len result
+        ≡ (bits_of_bytes (ring bytes.old first count) ++ spelled back_len back) ++ bits_of_bytes part.now }
+{
+    let place = first + count;
+    shift_part(back, back_len, part, &mut bytes[place..place + part.len()])
 }
 
 impl<const N: usize> BitBuf<N> {
@@ -184,6 +229,26 @@ impl<const N: usize> BitBuf<N> {
         }
     }
 
+    // Puts the bits of bytes behind the others, at once if they do not go round the end of the ring.
+    fn push_shifted(&mut self, bytes: &[u8])
+        requires room { length self.old + 8 * length bytes.now ≤ 8 * N }
+        ensures { self.new ≡ self.old ++ bits_of_bytes bytes.now }
+    {
+        if self.first + self.count + bytes.len() <= N {
+            self.back = paste_shifted(
+                &mut self.bytes,
+                self.first,
+                self.count,
+                self.back,
+                self.back_len,
+                bytes,
+            );
+            self.count += bytes.len();
+        } else {
+            self.push_each(bytes);
+        }
+    }
+
     /// Puts the bits of bytes behind the others. There must be room for them.
     pub fn push_bytes(&mut self, bytes: &[u8])
         requires room { length self.old + 8 * length bytes.now ≤ 8 * N }
@@ -194,7 +259,7 @@ impl<const N: usize> BitBuf<N> {
             paste_part(&mut self.bytes, self.first, self.count, bytes);
             self.count += bytes.len();
         } else {
-            self.push_each(bytes);
+            self.push_shifted(bytes);
         }
     }
 
@@ -229,6 +294,7 @@ impl<const N: usize> BitBuf<N> {
             copy_part(&self.bytes, self.first, to);
             self.first += to.len();
             self.count -= to.len();
+            self.first = first_of(self.first, self.count);
         } else {
             self.take_each(to);
         }

@@ -15,6 +15,8 @@ use station_core::Station;
 use std::alloc::Global;
 
 // Allocates the memory for a mode's modulator and one symbol, and runs the modulation.
+// A call of its own: a modulator is large, and no other command should pay for its room on the stack.
+#[inline(never)]
 fn modulate_in<'a, M: Carriers, S: Station<'a>>(
     alloc: Global,
     settings: &Settings,

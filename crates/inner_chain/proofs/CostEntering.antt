@@ -11,7 +11,8 @@ use Rattle.mode_set.specs.declared.settings.Settings.{Settings}
 use Rattle.puncture.specs.SentBits.{X, Y, sent}
 use Rattle.puncture.specs.Steps.{is_sent, number_of, sent_before, step_in_period}
 use Rattle.puncture.specs.Laws.{StepsAreNumbered}
-use Rattle.inner_chain.specs.CostTables.{entry_at, IsPlaced, IsSmallEntry, count_of, second, AreCostEntries, AppendsTwo}
+use Rattle.inner_chain.specs.CostTables.{block_coded, block_steps, entry_at, IsPlaced, IsSmallEntry, count_of, second, AreCostEntries, AppendsTwo}
+use Rattle.inner_chain.proofs.Blocks.{block_periods}
 use Rattle.inner_chain.proofs.Entering.{periods}
 
 -- ---- how many bits are sent
@@ -43,18 +44,29 @@ sent_whole r p =
     let none : count_by (λ c. nat_le (step_in_period c) (p * steps_in_period r % steps_in_period r)) (sent r) ≡ 0 = ap (λ (z : ℕ). count_by (λ c. nat_le (step_in_period c) z) (sent r)) w.1 ∙ none_yet r in
     omega (arith, first, none)
 
-sent_all : (s : Settings) (σ : Stream) → sent_before (rate s σ) (need s σ) ≡ coded s σ
+sent_all : (s : Settings) (σ : Stream) → sent_before (rate s σ) (block_steps s σ) ≡ block_coded s σ
 sent_all s σ =
+    let p = block_periods s σ in
+    ap (sent_before (rate s σ)) (sym p.1) ∙ sent_whole (rate s σ) (block_coded s σ - block_steps s σ) ∙ p.0
+
+sent_most : (s : Settings) (law : StepsAreNumbered) (σ : Stream) (t : ℕ) → t ≤ block_steps s σ → sent_before (rate s σ) t ≤ block_coded s σ
+sent_most s law σ t l =
+    let all : t + (block_steps s σ - t) ≡ block_steps s σ = omega (arith, l) in
+    omega (arith, grows (rate s σ) law t (block_steps s σ - t), ap (sent_before (rate s σ)) all, sent_all s σ)
+
+-- the same of all steps of a symbol
+all_sent : (s : Settings) (σ : Stream) → sent_before (rate s σ) (need s σ) ≡ coded s σ
+all_sent s σ =
     let p = periods s σ in
     ap (sent_before (rate s σ)) (sym p.1) ∙ sent_whole (rate s σ) (coded s σ - need s σ) ∙ p.0
 
-sent_most : (s : Settings) (law : StepsAreNumbered) (σ : Stream) (t : ℕ) → t ≤ need s σ → sent_before (rate s σ) t ≤ coded s σ
-sent_most s law σ t l =
+pub most_sent : (s : Settings) (law : StepsAreNumbered) (σ : Stream) (t : ℕ) → t ≤ need s σ → sent_before (rate s σ) t ≤ coded s σ
+most_sent s law σ t l =
     let all : t + (need s σ - t) ≡ need s σ = omega (arith, l) in
-    omega (arith, grows (rate s σ) law t (need s σ - t), ap (sent_before (rate s σ)) all, sent_all s σ)
+    omega (arith, grows (rate s σ) law t (need s σ - t), ap (sent_before (rate s σ)) all, all_sent s σ)
 
-pub step_fits : (s : Settings) (law : StepsAreNumbered) (σ : Stream) (r : Rate) (t bit : ℕ) (x y : Bool) → r ≡ rate s σ → x ≡ is_sent r X t → y ≡ is_sent r Y t → bit ≡ sent_before (rate s σ) t → t < need s σ
-    → bit + count_of x + count_of y ≤ coded s σ
+pub step_fits : (s : Settings) (law : StepsAreNumbered) (σ : Stream) (r : Rate) (t bit : ℕ) (x y : Bool) → r ≡ rate s σ → x ≡ is_sent r X t → y ≡ is_sent r Y t → bit ≡ sent_before (rate s σ) t → t < block_steps s σ
+    → bit + count_of x + count_of y ≤ block_coded s σ
 step_fits s law σ r t bit x y er ex ey eb l =
     let x' : count_of x ≡ count_of (is_sent (rate s σ) X t) = ap count_of (ex ∙ ap (λ (z : Rate). is_sent z X t) er) in
     let y' : count_of y ≡ count_of (is_sent (rate s σ) Y t) = ap count_of (ey ∙ ap (λ (z : Rate). is_sent z Y t) er) in
@@ -135,10 +147,10 @@ step_more s law σ r n bit x y old new er ex ey eb a two = record { long = long;
         go (inl m) = a.y_placed t m
         go (inr m) = let same : n ≡ t = omega (arith, l, m) in subst (λ (z : ℕ). IsPlaced s σ (number_of (rate s σ) Y z)) same (subst (IsPlaced s σ) y_is two.y_placed)
 
-    small : (k : ℕ) → k < length new → IsSmallEntry s (slice_index new k)
+    small : (k : ℕ) → k < length new → IsSmallEntry (slice_index new k)
     small k l = go (cases_lt k (2 * n)) (cases_lt k (2 * n + 1))
       where
-        go : (k < 2 * n) ⊎ (2 * n ≤ k) → (k < 2 * n + 1) ⊎ (2 * n + 1 ≤ k) → IsSmallEntry s (slice_index new k)
+        go : (k < 2 * n) ⊎ (2 * n ≤ k) → (k < 2 * n + 1) ⊎ (2 * n + 1 ≤ k) → IsSmallEntry (slice_index new k)
         go (inl m) q = omega (arith, left k (omega (arith, m, a.long)), a.small k (omega (arith, m, a.long)))
         go (inr m) (inl q) = omega (arith, right k 0 (omega (arith, m, q)), two.x_small)
         go (inr m) (inr q) = omega (arith, right k 1 (omega (arith, l, q, long)), two.y_small)

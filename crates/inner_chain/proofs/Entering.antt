@@ -41,7 +41,7 @@ pub whole : (s : Settings) (σ : Stream) → need s σ * sent_in_period (rate s 
 whole s σ = whole_of s.mode (width s.shape s.hierarchy σ) (rate s σ)
 
 -- a symbol has coded - need periods
-periods_of : (r : Rate) (c n : ℕ) → n * sent_in_period r ≡ c * steps_in_period r → ((c - n) * sent_in_period r ≡ c) × ((c - n) * steps_in_period r ≡ n)
+pub periods_of : (r : Rate) (c n : ℕ) → n * sent_in_period r ≡ c * steps_in_period r → ((c - n) * sent_in_period r ≡ c) × ((c - n) * steps_in_period r ≡ n)
 periods_of R1of2 c n e = (omega arith, omega arith)
 periods_of R2of3 c n e = (omega arith, omega arith)
 periods_of R3of4 c n e = (omega arith, omega arith)
@@ -90,6 +90,10 @@ few_steps_of s Lp = omega (arith, few_steps s)
 codeds : (m : Mode) (a b : ℕ) → a + b ≤ 6 → payload m * a + payload m * b ≤ 36288
 codeds M2k a b l = omega arith
 codeds M8k a b l = omega arith
+
+pub few_coded : (s : Settings) (σ : Stream) → coded s σ ≤ 36288
+few_coded s Hp = omega (arith, codeds s.mode (width s.shape s.hierarchy Hp) (width s.shape s.hierarchy Lp) (widths s.shape s.hierarchy))
+few_coded s Lp = omega (arith, codeds s.mode (width s.shape s.hierarchy Hp) (width s.shape s.hierarchy Lp) (widths s.shape s.hierarchy))
 
 pub total_steps : (s : Settings) → need s Hp + need s Lp ≤ 31752
 total_steps s =

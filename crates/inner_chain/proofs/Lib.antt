@@ -4,8 +4,10 @@ mod Gathering
 mod Encoding
 mod Entering
 mod Symbols
+mod Blocks
 mod CostEntering
 mod CostReading
 mod CellCosts
 mod Listing
 mod Fronts
+mod Quads

@@ -65,7 +65,7 @@ entries_within s odd entries len a e = record { at = at }
         subst (λ (z : ℕ). IsEntry s (k % label_bits s.shape) (carried s.mode odd (k / label_bits s.shape)) (slice_index entries z)) r.2 (a.at (k / label_bits s.shape) (k % label_bits s.shape) r.0 r.1) in
         omega (arith, e, few_steps s, stream_below s (stream_at s.hierarchy (k % label_bits s.shape)) (slice_index entries k / 2) here.from here.to)
 
-label_is : (s : Settings) (odd : Bool) (bits : Stream → ℕ → Bool) (q e : ℕ) → label_bit s odd bits q e ≡ bits (stream_at s.hierarchy e) (number_at s e (carried s.mode odd q))
+pub label_is : (s : Settings) (odd : Bool) (bits : Stream → ℕ → Bool) (q e : ℕ) → label_bit s odd bits q e ≡ bits (stream_at s.hierarchy e) (number_at s e (carried s.mode odd q))
 unfolding label_bit
 label_is s odd bits q e = refl
 

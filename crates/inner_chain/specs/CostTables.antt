@@ -1,7 +1,8 @@
 -- What the tables of the receiving side hold.
-use Rattle.std.specs.Prelude.{◌≡◌, ℕ, ◌+◌, ◌*◌, ◌/◌, ◌%◌, ◌<◌, ◌≤◌, Bool, if◌then◌else◌, List, ◌++◌, ◌∷◌, [], length}
+use Rattle.std.specs.Prelude.{◌≡◌, ℕ, ◌+◌, ◌*◌, ◌/◌, ◌%◌, ◌<◌, ◌≤◌, Bool, if◌then◌else◌, List, ◌++◌, ◌∷◌, [], drop}
+use Rattle.std.specs.Prelude.{length}
 use Rattle.std.specs.Prelude.{Option, Some, None, slice_index, slice_index_or, ⊤}
-use Rattle.mode_set.specs.StreamTable.{payload, label_bits, carriers, need, rate}
+use Rattle.mode_set.specs.StreamTable.{payload, label_bits, carriers, need, rate, width}
 use Rattle.mode_set.specs.declared.modes.Mode.{Mode}
 use Rattle.mode_set.specs.declared.modes.Shape.{Shape}
 use Rattle.mode_set.specs.declared.modes.Hierarchy.{Hierarchy}
@@ -20,26 +21,49 @@ use Rattle.qam_map.specs.declared.cell.Cell.{Cell}
 use Rattle.soft_metric.specs.Squares.{IsSmallPair}
 use Rattle.soft_metric.specs.Weights.{full_weight}
 use Rattle.qam_map.specs.Cells.{cell_of}
-use Rattle.inner_chain.specs.CostPairs.{weight_of, weighted_costs_on}
-use Rattle.inner_chain.specs.Tables.{most_steps}
+use Rattle.inner_chain.specs.CostPairs.{weight_of, weighted_costs_on, IsPairOf}
 
--- the label bits of a symbol, at six bits a label
-abbrev pub most_places : Mode → ℕ
-most_places m = 6 * payload m
+-- the words of a block: two blocks of the bit interleavers, which hold whole puncturing periods at every rate
+abbrev pub block_words : ℕ
+block_words = 252
 
--- the number of the costs of a coded bit among those of all places of all words, the number behind the most for an
--- unsent bit
+-- the blocks of a symbol
+abbrev pub blocks : Mode → ℕ
+blocks m = payload m / block_words
+
+-- the coded bits of a stream in a block
+abbrev pub block_coded : Settings → Stream → ℕ
+block_coded s σ = block_words * width s.shape s.hierarchy σ
+
+-- the steps of a stream in a block
+abbrev pub block_steps : Settings → Stream → ℕ
+block_steps s σ = need s σ / blocks s.mode
+
+-- the most steps of a block: six bits on each payload carrier, at rate 7/8
+abbrev pub most_block_steps : ℕ
+most_block_steps = 1323
+
+-- the costs of a block at a label bit: those of its words, and four that are not used
+abbrev pub row : ℕ
+row = 256
+
+-- the costs of a block, at six bits a label
+abbrev pub most_places : ℕ
+most_places = 1536
+
+-- the number of the costs of a coded bit among those of all places of the words of a block, the number behind the most
+-- for an unsent bit
 abbrev pub entry_at : Settings → Stream → Option ℕ → ℕ
-entry_at s σ None = most_places s.mode
-entry_at s σ (Some d) = place_in_label s.shape s.hierarchy σ d * payload s.mode + word_of_bit s.shape s.hierarchy σ d
+entry_at s σ None = most_places
+entry_at s σ (Some d) = place_in_label s.shape s.hierarchy σ d * row + word_of_bit s.shape s.hierarchy σ d
 
-abbrev pub IsSmallEntry : Settings → ℕ → Type 0
-IsSmallEntry s n = n ≤ most_places s.mode
+abbrev pub IsSmallEntry : ℕ → Type 0
+IsSmallEntry n = n ≤ most_places
 
--- the word and the place of a coded bit are among the symbol's
+-- the word of a coded bit is one of the first block, and its place is one of the label
 abbrev pub IsPlaced : Settings → Stream → Option ℕ → Type 0
 IsPlaced s σ None = ⊤
-IsPlaced s σ (Some d) = (word_of_bit s.shape s.hierarchy σ d < payload s.mode)
+IsPlaced s σ (Some d) = (0 < width s.shape s.hierarchy σ) × (word_of_bit s.shape s.hierarchy σ d < block_words)
     × (place_in_label s.shape s.hierarchy σ d < label_bits s.shape)
 
 abbrev pub count_of : Bool → ℕ
@@ -56,7 +80,7 @@ pub record AreCostEntries (s : Settings) (σ : Stream) (n : ℕ) (entries : List
   pub y : (t : ℕ) → t < n → slice_index entries (2 * t + 1) ≡ entry_at s σ (number_of (rate s σ) Y t)
   pub x_placed : (t : ℕ) → t < n → IsPlaced s σ (number_of (rate s σ) X t)
   pub y_placed : (t : ℕ) → t < n → IsPlaced s σ (number_of (rate s σ) Y t)
-  pub small : (k : ℕ) → k < length entries → IsSmallEntry s (slice_index entries k)
+  pub small : (k : ℕ) → k < length entries → IsSmallEntry (slice_index entries k)
 
 -- the carrier of a word in symbol l
 abbrev pub carrier_of_word : Mode → ℕ → ℕ → ℕ
@@ -72,8 +96,8 @@ pub record AreCarriers (m : Mode) (n : ℕ) (list : List ℕ) : Type 0 where
 -- a list is continued by the entries of an X and a Y with these numbers
 pub record AppendsTwo (s : Settings) (σ : Stream) (x y : Option ℕ) (old new : List ℕ) : Type 0 where
   pub is : new ≡ old ++ entry_at s σ x ∷ entry_at s σ y ∷ []
-  pub x_small : IsSmallEntry s (entry_at s σ x)
-  pub y_small : IsSmallEntry s (entry_at s σ y)
+  pub x_small : IsSmallEntry (entry_at s σ x)
+  pub y_small : IsSmallEntry (entry_at s σ y)
   pub x_placed : IsPlaced s σ x
   pub y_placed : IsPlaced s σ y
 
@@ -81,15 +105,16 @@ pub record AppendsTwo (s : Settings) (σ : Stream) (x y : Option ℕ) (old new :
 abbrev pub pair_at : List (ℕ × ℕ) → ℕ → ℕ × ℕ
 pair_at costs n = slice_index_or costs n (0, 0)
 
--- the weighted costs of all places of all words of symbol l: those of place 0 first
-pub record AreCosts (s : Settings) (cells : List Cell) (weights : List ℕ) (l : ℕ) (costs : List (ℕ × ℕ)) : Type 0 where
-  pub at : (w e : ℕ) → w < payload s.mode → e < label_bits s.shape → pair_at costs (e * payload s.mode + w)
-      ≡ weighted_costs_on s cells weights l (place_of_word s.mode (is_odd l) w) e
+-- the weighted costs of all places of the words of block b of symbol l: those of place 0 first
+pub record AreCosts (s : Settings) (cells : List Cell) (weights : List ℕ) (l b : ℕ) (costs : List (ℕ × ℕ)) : Type 0
+  where
+    pub at : (w e : ℕ) → w < block_words → e < label_bits s.shape → pair_at costs (e * row + w)
+        ≡ weighted_costs_on s cells weights l (place_of_word s.mode (is_odd l) (b * block_words + w)) e
 
--- space for the costs of any labels; its last pair is 0, and no cost exceeds 4095
-pub record IsRoom (m : Mode) (costs : List (ℕ × ℕ)) : Type 0 where
-  pub long : length costs ≡ most_places m + 1
-  pub last : pair_at costs (most_places m) ≡ (0, 0)
+-- space for the costs of a block of any labels; its last pair is 0, and no cost exceeds 4095
+pub record IsRoom (costs : List (ℕ × ℕ)) : Type 0 where
+  pub long : length costs ≡ most_places + 1
+  pub last : pair_at costs most_places ≡ (0, 0)
   pub small : (k : ℕ) → k < length costs → IsSmallPair (pair_at costs k)
 
 -- the weights of all carriers, none above 15
@@ -97,35 +122,47 @@ pub record AreWeights (m : Mode) (weights : List ℕ) : Type 0 where
   pub long : length weights ≡ carriers m
   pub small : (k : ℕ) → k < carriers m → slice_index weights k ≤ full_weight
 
--- the cells of the first n words of symbol l
-pub record AreWordCells (m : Mode) (cells : List Cell) (l n : ℕ) (list : List Cell) : Type 0 where
-  pub long : length list ≡ payload m
-  pub at : (q : ℕ) (d : Cell) → q < n → slice_index_or list q d ≡ cell_of cells (carrier_of_word m l q)
+-- the cells of the words of block b of symbol l
+pub record AreWordCells (m : Mode) (cells : List Cell) (l b : ℕ) (list : List Cell) : Type 0 where
+  pub long : length list ≡ row
+  pub at : (q : ℕ) (d : Cell) → q < block_words → slice_index_or list q d
+      ≡ cell_of cells (carrier_of_word m l (b * block_words + q))
 
--- the room for the weights of words, none above 15
-pub record IsWeightRoom (m : Mode) (list : List ℕ) : Type 0 where
-  pub long : length list ≡ payload m
-  pub small : (q : ℕ) → q < payload m → slice_index list q ≤ full_weight
+-- the room for the weights of the words of a block, none above 15
+pub record IsWeightRoom (list : List ℕ) : Type 0 where
+  pub long : length list ≡ row
+  pub small : (q : ℕ) → q < row → slice_index list q ≤ full_weight
 
--- the weights of the first n words of symbol l
-pub record AreWordWeights (m : Mode) (weights : List ℕ) (l n : ℕ) (list : List ℕ) : Type 0 where
-  pub room : IsWeightRoom m list
-  pub at : (q : ℕ) → q < n → slice_index list q ≡ weight_of weights (carrier_of_word m l q)
+-- the weights of the words of block b of symbol l
+pub record AreWordWeights (m : Mode) (weights : List ℕ) (l b : ℕ) (list : List ℕ) : Type 0 where
+  pub room : IsWeightRoom list
+  pub at : (q : ℕ) → q < block_words → slice_index list q ≡ weight_of weights (carrier_of_word m l
+      (b * block_words + q))
 
--- n cost pairs are appended to a list; the X and Y of each are the costs at two entries
-pub record AppendsRead (costs : List (ℕ × ℕ)) (entries : List ℕ) (n : ℕ) (old new : List CostPair) : Type 0 where
+-- the X and the Y of a cost pair are the costs at the two entries of step t
+pub record IsRead (costs : List (ℕ × ℕ)) (entries : List ℕ) (t : ℕ) (c : CostPair) : Type 0 where
+  pub x : (c.x0, c.x1) ≡ pair_at costs (slice_index entries (2 * t))
+  pub y : (c.y0, c.y1) ≡ pair_at costs (slice_index entries (2 * t + 1))
+
+-- the cost pairs of the first n steps of symbol l are appended to a list
+pub record AppendsFirst (s : Settings) (cells : List Cell) (weights : List ℕ) (l : ℕ) (σ : Stream) (n : ℕ)
+    (old new : List CostPair) : Type 0 where
   pub pairs : List CostPair
   pub long : length pairs ≡ n
-  pub x : (t : ℕ) (d : CostPair) → t < n → ((slice_index_or pairs t d).x0, (slice_index_or pairs t d).x1)
-      ≡ pair_at costs (slice_index entries (2 * t))
-  pub y : (t : ℕ) (d : CostPair) → t < n → ((slice_index_or pairs t d).y0, (slice_index_or pairs t d).y1)
-      ≡ pair_at costs (slice_index entries (2 * t + 1))
+  pub at : (t : ℕ) (d : CostPair) → t < n → IsPairOf s cells weights l σ t (slice_index_or pairs t d)
   pub is : new ≡ old ++ pairs
 
--- a table of the entries of all steps of a stream in a symbol, in room for the most steps
+-- the cost pairs of the first n steps of symbol l were written over those at the front of a list
+pub record WritesPairs (s : Settings) (cells : List Cell) (weights : List ℕ) (l : ℕ) (σ : Stream) (n : ℕ)
+    (old new : List CostPair) : Type 0 where
+  pub long : length new ≡ length old
+  pub at : (t : ℕ) (d : CostPair) → t < n → IsPairOf s cells weights l σ t (slice_index_or new t d)
+  pub rest : (k : ℕ) → n ≤ k → drop k new ≡ drop k old
+
+-- a table of the entries of all steps of a stream in a block, in room for the most steps
 pub record IsCostTable (s : Settings) (σ : Stream) (entries : List ℕ) (room : ℕ) : Type 0 where
-  pub are : AreCostEntries s σ (need s σ) entries
-  pub spare : 2 * most_steps s.mode ≤ room
+  pub are : AreCostEntries s σ (block_steps s σ) entries
+  pub spare : 2 * most_block_steps ≤ room
 
 -- the metric of these parameters, and the tables of both streams
 pub record AreCostTables (s : Settings) (metric : Shape × Hierarchy) (hp lp : List ℕ) (hp_room lp_room : ℕ) : Type
@@ -143,7 +180,7 @@ pub record TablesState : Type 0 where
 abbrev pub settings_of : TablesState → Settings
 settings_of t = with_entry t.settings t.latest
 
--- what is seen of the costs of a symbol
+-- what is seen of the costs of a block
 pub record CostsState : Type 0 where
   pub mode : Mode
   pub costs : List (ℕ × ℕ)
@@ -152,9 +189,9 @@ pub record CostsState : Type 0 where
 pub record IsCostRoom (m : Mode) (carrier_table : List ℕ) (cells : List Cell) (weights : List ℕ) (costs : List (ℕ × ℕ))
     : Type 0 where
   pub are_carriers : AreCarriers m (4 * payload m) carrier_table
-  pub cells_long : length cells ≡ payload m
-  pub weight_room : IsWeightRoom m weights
-  pub room : IsRoom m costs
+  pub cells_long : length cells ≡ row
+  pub weight_room : IsWeightRoom weights
+  pub room : IsRoom costs
 
 -- what the receiving side of a mode keeps
 pub record IsRx (m : Mode) (tables : TablesState) (costs : CostsState) : Type 0 where

@@ -3,3 +3,4 @@ pub mod CostPairs
 pub mod CostTables
 pub mod PairLists
 pub mod Tables
+pub mod Fours

@@ -1,60 +1,93 @@
-// The costs of all places of the words of a symbol.
-ghost use Rattle.std.specs.Prelude.{◌≡◌, ◌*◌, IfOk, length};
-ghost use Rattle.mode_set.specs.StreamTable.{carriers, payload};
-ghost use Rattle.inner_chain.specs.CostTables.{AreCarriers, AreCosts, AreWeights, AreWordCells, AreWordWeights, IsRoom};
-ghost use Rattle.inner_chain.specs.CostTables.{IsWeightRoom};
+// The costs of all places of the words of a block.
+ghost use Rattle.std.specs.Prelude.{◌≡◌, ◌+◌, ◌*◌, ◌<◌, ◌≤◌, ℕ, IfOk, length, slice_index, slice_index_or};
+ghost use Rattle.mode_set.specs.StreamTable.{carriers, coded, payload};
+ghost use Rattle.qam_map.specs.Cells.{cell_of};
+ghost use Rattle.qam_map.specs.declared.cell.Cell.{Cell as AnyCell};
+ghost use Rattle.soft_metric.specs.Squares.{IsSmallPair};
+ghost use Rattle.inner_chain.specs.CostPairs.{costs_of_bit};
+ghost use Rattle.inner_chain.specs.CostTables.{AreCarriers, AreCosts, AreWeights, IsRoom, IsWeightRoom, blocks};
+ghost use Rattle.inner_chain.specs.CostTables.{most_places};
 
-use crate::cost_entries::carriers_of;
-use mode_set::{Carriers, Mode, Settings};
+use crate::cost_entries::{BLOCK_WORDS, ROW, carriers_of};
+use bit_interleave::place;
+use mode_set::{Carriers, Mode, Settings, Stream};
 use pilots::kinds_repeat;
 use qam_map::Cell;
-use soft_metric::AxisMetric;
+use soft_metric::{AxisMetric, costs, weighted};
 use std::alloc::{AllocError, Global};
 use std::marker::Model;
 use symbol_interleave::Permutation;
 
-// The cells of the words of symbol `l`, and their weights.
+// The cells of the words of a block, and their weights, by the carriers from number `first` on.
 fn gather_cells(
-    mode: Mode,
     carrier_table: &[u16],
+    first: usize,
     cells: &[Cell],
     weights: &[u8],
-    l: u8,
     to: &mut [Cell],
     weights_to: &mut [u8],
 )
-    requires carriers { AreCarriers mode (4 * payload mode) carrier_table.now }
-    requires cells { length cells.now ≡ carriers mode }
-    requires weights { AreWeights mode weights.now }
-    requires room { length to.old ≡ payload mode }
-    requires weight_room { IsWeightRoom mode weights_to.old }
-    ensures cells { AreWordCells mode cells.now l (payload mode) to.new }
-    ensures weights { AreWordWeights mode weights.now l (payload mode) weights_to.new }
+    requires words { first + 252 ≤ length carrier_table.now }
+    requires carriers { (k : ℕ) → k < length carrier_table.now → slice_index carrier_table.now k < length cells.now }
+    requires weights { length weights.now ≡ length cells.now }
+    requires room { length to.old ≡ 256 }
+    requires weight_room { length weights_to.old ≡ 256 }
+    ensures cells { (q : ℕ) (d : AnyCell) → q < 252 → slice_index_or to.new q d
+        ≡ cell_of cells.now (slice_index carrier_table.now (first + q)) }
+    ensures weights { (q : ℕ) → q < 252 → slice_index weights_to.new q
+        ≡ slice_index weights.now (slice_index carrier_table.now (first + q)) }
+    ensures rest { (q : ℕ) → 252 ≤ q → slice_index weights_to.new q ≡ slice_index weights_to.old q }
+    ensures long { length to.new ≡ length to.old }
+    ensures weights_long { length weights_to.new ≡ length weights_to.old }
 {
-    kinds_repeat(mode, l);
-    let first = (l % 4) as usize * mode.payload() as usize;
-    for q in 0..mode.payload() as usize {
+    for q in 0..BLOCK_WORDS {
         let carrier = carrier_table[first + q] as usize;
         to[q] = cells[carrier];
         weights_to[q] = weights[carrier];
     }
 }
 
-// Room for the costs of all places of any words, and one zero entry for punctured bits.
-fn room_for_costs(alloc: Global, mode: Mode) -> Result<Vec<(u16, u16)>, AllocError>
-    ensures { IfOk result (λ room. IsRoom mode room.items) }
+// The weighted costs of a coded bit of a stream in symbol `l`, which has these cells and weights.
+fn bit_costs(
+    carrier_table: &[u16],
+    settings: &Settings,
+    cells: &[Cell],
+    weights: &[u8],
+    l: u8,
+    stream: Stream,
+    bit: u32,
+) -> (u16, u16)
+    requires carriers { AreCarriers settings.now.mode (4 * payload settings.now.mode) carrier_table.now }
+    requires cells { length cells.now ≡ carriers settings.now.mode }
+    requires weights { AreWeights settings.now.mode weights.now }
+    requires within { bit < coded settings.now stream }
+    ensures costs { result ≡ costs_of_bit settings.now cells.now weights.now l stream bit }
+    ensures small { IsSmallPair result }
 {
-    vec![in alloc; (0u16, 0u16); 6 * mode.payload() as usize + 1]
+    kinds_repeat(settings.mode, l);
+    let (e, word) = place(settings.shape, settings.hierarchy, stream, bit);
+    let first = (l % 4) as usize * settings.mode.payload() as usize;
+    let carrier = carrier_table[first + word as usize] as usize;
+    let pair = costs(settings.shape, settings.hierarchy, cells[carrier], e);
+    weighted(pair, weights[carrier])
+}
+
+// Room for the costs of all places of the words of a block, and one zero entry for punctured bits.
+fn room_for_costs(alloc: Global, places: usize) -> Result<Vec<(u16, u16)>, AllocError>
+    requires { places ≡ most_places }
+    ensures { IfOk result (λ room. IsRoom room.items) }
+{
+    vec![in alloc; (0u16, 0u16); places + 1]
 }
 
 // Room for the weights of the words.
-fn room_for_weights(alloc: Global, mode: Mode) -> Result<Vec<u8>, AllocError>
-    ensures { IfOk result (λ room. IsWeightRoom mode room.items) }
+fn room_for_weights(alloc: Global) -> Result<Vec<u8>, AllocError>
+    ensures { IfOk result (λ room. IsWeightRoom room.items) }
 {
-    vec![in alloc; 0u8; mode.payload() as usize]
+    vec![in alloc; 0u8; ROW]
 }
 
-/// The costs of all places of the words of a symbol, and what they are found from. It is seen as the mode and
+/// The costs of all places of the words of a block, and what they are found from. It is seen as the mode and
 /// the costs.
 #[derive(Drop)]
 pub(crate) struct CellCosts {
@@ -76,7 +109,7 @@ impl Model for CellCosts {
 }
 
 impl CellCosts {
-    /// Room for the costs of a symbol of the mode.
+    /// Room for the costs of a block of the mode.
     pub(crate) fn new<M: Carriers>(
         alloc: Global,
         permutation: &Permutation<M>,
@@ -85,9 +118,9 @@ impl CellCosts {
     {
         let mode = M::MODE;
         let carrier_table = carriers_of(alloc, permutation)?;
-        let cells = vec![in alloc; Cell { re: 0, im: 0 }; mode.payload() as usize]?;
-        let weights = room_for_weights(alloc, mode)?;
-        let costs = room_for_costs(alloc, mode)?;
+        let cells = vec![in alloc; Cell { re: 0, im: 0 }; ROW]?;
+        let weights = room_for_weights(alloc)?;
+        let costs = room_for_costs(alloc, 6 * ROW)?;
         Ok(CellCosts {
             mode,
             carrier_table,
@@ -97,7 +130,8 @@ impl CellCosts {
         })
     }
 
-    /// Writes the weighted costs of all places of the words of symbol `l`, which has these cells and weights.
+    /// Writes the weighted costs of all places of the words of a block of symbol `l`, which has these cells and
+    /// weights.
     pub(crate) fn write(
         &mut self,
         settings: &Settings,
@@ -105,21 +139,24 @@ impl CellCosts {
         cells: &[Cell],
         weights: &[u8],
         l: u8,
+        block: u32,
     )
         requires mode { self.old.mode ≡ settings.now.mode }
         requires metric { metric.now ≡ (settings.now.shape, settings.now.hierarchy) }
         requires cells { length cells.now ≡ carriers settings.now.mode }
         requires weights { AreWeights settings.now.mode weights.now }
+        requires block { block < blocks settings.now.mode }
         ensures mode { self.new.mode ≡ self.old.mode }
-        ensures costs { AreCosts settings.now cells.now weights.now l self.new.costs }
-        ensures room { IsRoom settings.now.mode self.new.costs }
+        ensures costs { AreCosts settings.now cells.now weights.now l block self.new.costs }
+        ensures room { IsRoom self.new.costs }
     {
+        kinds_repeat(self.mode, l);
+        let first = (l % 4) as usize * self.mode.payload() as usize;
         gather_cells(
-            self.mode,
             &self.carrier_table,
+            first + BLOCK_WORDS * block as usize,
             cells,
             weights,
-            l,
             &mut self.cells,
             &mut self.weights,
         );
@@ -131,5 +168,33 @@ impl CellCosts {
         ensures { result.now ≡ self.now.costs }
     {
         &self.costs
+    }
+
+    /// The weighted costs of a coded bit of a stream in symbol `l`, which has these cells and weights.
+    pub(crate) fn of_bit(
+        &self,
+        settings: &Settings,
+        cells: &[Cell],
+        weights: &[u8],
+        l: u8,
+        stream: Stream,
+        bit: u32,
+    ) -> (u16, u16)
+        requires mode { self.now.mode ≡ settings.now.mode }
+        requires cells { length cells.now ≡ carriers settings.now.mode }
+        requires weights { AreWeights settings.now.mode weights.now }
+        requires within { bit < coded settings.now stream }
+        ensures costs { result ≡ costs_of_bit settings.now cells.now weights.now l stream bit }
+        ensures small { IsSmallPair result }
+    {
+        bit_costs(
+            &self.carrier_table,
+            settings,
+            cells,
+            weights,
+            l,
+            stream,
+            bit,
+        )
     }
 }

@@ -1,41 +1,61 @@
-// Which costs of a symbol's cells are those of each step.
+// Which costs of the cells of a block are those of each step.
 ghost use Rattle.std.specs.Prelude.{◌≡◌, ◌+◌, ◌*◌, ◌<◌, ◌≤◌, IfOk, Some, None, if◌then◌else◌, vec_capacity, vec_len};
-ghost use Rattle.mode_set.specs.StreamTable.{coded, payload};
+ghost use Rattle.mode_set.specs.StreamTable.{payload};
 ghost use Rattle.puncture.specs.Steps.{has_x, has_y};
-ghost use Rattle.inner_chain.specs.CostTables.{AppendsTwo, AreCarriers, IsCostTable, IsPlaced, IsSmallEntry, count_of};
-ghost use Rattle.inner_chain.specs.CostTables.{entry_at, most_places, second};
-ghost use Rattle.inner_chain.specs.Tables.{most_steps};
+ghost use Rattle.inner_chain.specs.CostTables.{AppendsTwo, AreCarriers, IsCostTable, IsPlaced, IsSmallEntry};
+ghost use Rattle.inner_chain.specs.CostTables.{block_coded, block_steps, blocks, count_of, entry_at, most_block_steps};
+ghost use Rattle.inner_chain.specs.CostTables.{most_places, second};
 
 use bit_interleave::place;
-use mode_set::{Carriers, Settings, Stream};
+use mode_set::{Carriers, Mode, Settings, Stream};
 use pilots::carrier;
 use puncture::{Sent, sent, steps_are_numbered};
 use std::alloc::{AllocError, Global};
 use symbol_interleave::Permutation;
 
+// The words of a block: two blocks of the bit interleavers (EN 300 744, 4.3.4.1).
+pub(crate) const BLOCK_WORDS: usize = 252;
+
+// The costs of a block at a place of the label: those of its words, and four more, so that they are sixteens.
+pub(crate) const ROW: usize = 256;
+
 // The entry of an unsent bit: that behind the costs of the most places.
-fn no_entry(settings: &Settings) -> u16
-    ensures { result ≡ most_places settings.now.mode }
+const NO_ENTRY: u16 = 1536;
+
+// The blocks of a symbol.
+pub(crate) fn blocks(mode: Mode) -> u32
+    ensures { result ≡ blocks mode }
 {
-    (6 * settings.mode.payload()) as u16
+    match mode {
+        Mode::M2k => 6,
+        Mode::M8k => 24,
+    }
 }
 
-// The entry of a coded bit: its place in the label times the words of a symbol, and its word.
+// The steps of a stream in a block.
+pub(crate) fn block_steps(settings: &Settings, stream: Stream) -> u32
+    ensures steps { result ≡ block_steps settings.now stream }
+    ensures few { result ≤ most_block_steps }
+{
+    settings.need(stream) / blocks(settings.mode)
+}
+
+// The entry of a coded bit of the first block: its place in the label times the costs of a place, and its word.
 fn bit_entry(settings: &Settings, stream: Stream, bit: u32) -> u16
-    requires within { bit < coded settings.now stream }
+    requires within { bit < block_coded settings.now stream }
     ensures is { result ≡ entry_at settings.now stream (Some bit) }
     ensures placed { IsPlaced settings.now stream (Some bit) }
-    ensures small { IsSmallEntry settings.now result }
+    ensures small { IsSmallEntry result }
 {
     let (e, word) = place(settings.shape, settings.hierarchy, stream, bit);
-    (e as u32 * settings.mode.payload() + word) as u16
+    (ROW as u32 * e as u32 + word) as u16
 }
 
 // Appends the entries of X and Y of a step whose first sent bit has the number `bit`, and answers
 // the number of the next step's first.
 fn push_step(settings: &Settings, stream: Stream, sent: Sent, bit: u32, to: &mut Vec<u16>) -> u32
     requires spare { vec_len to.old + 2 ≤ vec_capacity to.old }
-    requires within { bit + count_of (has_x sent) + count_of (has_y sent) ≤ coded settings.now stream }
+    requires within { bit + count_of (has_x sent) + count_of (has_y sent) ≤ block_coded settings.now stream }
     ensures next { result ≡ bit + count_of (has_x sent) + count_of (has_y sent) }
     ensures entries { AppendsTwo settings.now stream (if has_x sent then Some bit else None)
         (if has_y sent then Some (second (has_x sent) bit) else None) to.old.items to.new.items }
@@ -49,27 +69,27 @@ fn push_step(settings: &Settings, stream: Stream, sent: Sent, bit: u32, to: &mut
         }
         Sent::OnlyX => {
             to.push_reserved(bit_entry(settings, stream, bit));
-            to.push_reserved(no_entry(settings));
+            to.push_reserved(NO_ENTRY);
             bit + 1
         }
         Sent::OnlyY => {
-            to.push_reserved(no_entry(settings));
+            to.push_reserved(NO_ENTRY);
             to.push_reserved(bit_entry(settings, stream, bit));
             bit + 1
         }
     }
 }
 
-// Replaces what stood in the table by the entries of all steps of a stream.
+// Replaces what stood in the table by the entries of the steps of a stream in a block.
 pub(crate) fn write_cost_entries(settings: &Settings, stream: Stream, table: &mut Vec<u16>)
-    requires spare { 2 * most_steps settings.now.mode ≤ vec_capacity table.old }
+    requires spare { 2 * most_block_steps ≤ vec_capacity table.old }
     ensures { IsCostTable settings.now stream table.new.items (vec_capacity table.new) }
 {
     steps_are_numbered();
     let rate = settings.rate(stream);
     table.clear();
     let mut bit = 0;
-    for step in 0..settings.need(stream) {
+    for step in 0..block_steps(settings, stream) {
         bit = push_step(settings, stream, sent(rate, step as u64), bit, table);
     }
 }
@@ -82,7 +102,7 @@ pub(crate) fn cost_table(
 ) -> Result<Vec<u16>, AllocError>
     ensures { IfOk result (λ table. IsCostTable settings.now stream table.items (vec_capacity table)) }
 {
-    let mut table = Vec::with_capacity(alloc, 2 * (21 * settings.mode.payload() as usize / 4))?;
+    let mut table = Vec::with_capacity(alloc, 21 * BLOCK_WORDS / 2)?;
     write_cost_entries(settings, stream, &mut table);
     Ok(table)
 }

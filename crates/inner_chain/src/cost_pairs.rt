@@ -1,66 +1,83 @@
-// Cost pairs out of the costs of all places.
-ghost use Rattle.std.specs.Prelude.{◌≡◌, ◌+◌, ◌*◌, ◌<◌, ◌≤◌, [], ℕ, drop, length, slice_index, take, vec_capacity};
-ghost use Rattle.std.specs.Prelude.{vec_len};
+// Cost pairs out of the costs of all places of a block.
+ghost use Rattle.std.specs.Prelude.{◌≡◌, ◌+◌, ◌*◌, ◌<◌, ◌≤◌, ℕ, drop, length, slice_index, slice_index_or};
+ghost use Rattle.code_paths.specs.declared.costs.CostPair.{CostPair as AnyPair};
+ghost use Rattle.mode_set.specs.StreamTable.{carriers, need};
+ghost use Rattle.mode_set.specs.declared.modes.Stream.TheVariants.{Hp, Lp};
 ghost use Rattle.soft_metric.specs.Squares.{IsSmallPair};
-ghost use Rattle.inner_chain.specs.CostTables.{AppendsRead, pair_at};
+ghost use Rattle.inner_chain.specs.CostTables.{AreWeights, IsRead, WritesPairs, pair_at, settings_of};
 
+use crate::cell_costs::CellCosts;
+use crate::cost_entries::{block_steps, blocks};
+use crate::cost_tables::CostTables;
 use conv_code::CostPair;
+use mode_set::Stream;
+use puncture::periods_shift;
+use qam_map::Cell;
 
-fn pair_of(x: (u16, u16), y: (u16, u16)) -> CostPair
-    requires x { IsSmallPair x }
-    requires y { IsSmallPair y }
-    ensures x { (result.x0, result.x1) ≡ x }
-    ensures y { (result.y0, result.y1) ≡ y }
-{
-    CostPair {
-        x0: x.0,
-        x1: x.1,
-        y0: y.0,
-        y1: y.1,
-    }
-}
-
-// Appends a pair for each two entries.
-pub(crate) fn push_pairs(
+// Writes a pair for each two entries over those from number `first` on, and keeps the others.
+pub(crate) fn write_pairs(
     costs: &[(u16, u16)],
     entries: &[u16],
     steps: usize,
-    to: &mut Vec<CostPair>,
+    first: usize,
+    to: &mut [CostPair],
 )
     requires steps { 2 * steps ≤ length entries.now }
     requires few { steps ≤ 65536 }
     requires within { (k : ℕ) → k < length entries.now → slice_index entries.now k < length costs.now }
     requires small { (k : ℕ) → k < length costs.now → IsSmallPair (pair_at costs.now k) }
-    requires spare { vec_len to.old + steps ≤ vec_capacity to.old }
-    ensures pairs { AppendsRead costs.now entries.now steps to.old.items to.new.items }
-    ensures capacity { vec_capacity to.new ≡ vec_capacity to.old }
-{
-    for step in 0..steps {
-        let x = costs[entries[2 * step] as usize];
-        let y = costs[entries[2 * step + 1] as usize];
-        to.push_reserved(pair_of(x, y));
-    }
-}
-
-// Writes a pair for each two entries over those at the front, and keeps the others.
-pub(crate) fn write_pairs(costs: &[(u16, u16)], entries: &[u16], steps: usize, to: &mut [CostPair])
-    requires steps { 2 * steps ≤ length entries.now }
-    requires few { steps ≤ 65536 }
-    requires within { (k : ℕ) → k < length entries.now → slice_index entries.now k < length costs.now }
-    requires small { (k : ℕ) → k < length costs.now → IsSmallPair (pair_at costs.now k) }
-    requires room { steps ≤ length to.old }
-    ensures pairs { AppendsRead costs.now entries.now steps [] (take steps to.new) }
-    ensures rest { drop steps to.new ≡ drop steps to.old }
+    requires room { first + steps ≤ length to.old }
+    ensures here { (t : ℕ) (d : AnyPair) → t < steps → IsRead costs.now entries.now t
+        (slice_index_or to.new (first + t) d) }
+    ensures before { (k : ℕ) (d : AnyPair) → k < first → slice_index_or to.new k d ≡ slice_index_or to.old k d }
+    ensures rest { (k : ℕ) → first + steps ≤ k → drop k to.new ≡ drop k to.old }
     ensures long { length to.new ≡ length to.old }
 {
     for step in 0..steps {
         let x = costs[entries[2 * step] as usize];
         let y = costs[entries[2 * step + 1] as usize];
-        to[step] = CostPair {
+        to[first + step] = CostPair {
             x0: x.0,
             x1: x.1,
             y0: y.0,
             y1: y.1,
         };
+    }
+}
+
+// Writes the cost pairs of both streams in symbol `l`, which has these cells and weights, over those at the front of
+// `hp` and `lp`. All blocks of a symbol have the same entries.
+pub(crate) fn write_symbol(
+    tables: &CostTables,
+    costs: &mut CellCosts,
+    cells: &[Cell],
+    weights: &[u8],
+    l: u8,
+    hp: &mut [CostPair],
+    lp: &mut [CostPair],
+)
+    requires mode { costs.old.mode ≡ (settings_of tables.now).mode }
+    requires cells { length cells.now ≡ carriers (settings_of tables.now).mode }
+    requires weights { AreWeights (settings_of tables.now).mode weights.now }
+    requires hp_room { need (settings_of tables.now) Hp ≤ length hp.old }
+    requires lp_room { need (settings_of tables.now) Lp ≤ length lp.old }
+    ensures mode { costs.new.mode ≡ costs.old.mode }
+    ensures hp { WritesPairs (settings_of tables.now) cells.now weights.now l Hp (need (settings_of tables.now) Hp)
+        hp.old hp.new }
+    ensures lp { WritesPairs (settings_of tables.now) cells.now weights.now l Lp (need (settings_of tables.now) Lp)
+        lp.old lp.new }
+{
+    periods_shift();
+    let settings = tables.settings();
+    let metric = tables.metric();
+    let hp_entries = tables.entries(Stream::Hp);
+    let lp_entries = tables.entries(Stream::Lp);
+    let hp_steps = block_steps(&settings, Stream::Hp) as usize;
+    let lp_steps = block_steps(&settings, Stream::Lp) as usize;
+    for block in 0..blocks(settings.mode) {
+        costs.write(&settings, metric, cells, weights, l, block);
+        let list = costs.costs();
+        write_pairs(list, hp_entries, hp_steps, block as usize * hp_steps, hp);
+        write_pairs(list, lp_entries, lp_steps, block as usize * lp_steps, lp);
     }
 }

@@ -2,7 +2,7 @@
 ghost use Rattle.std.specs.Prelude.{◌≡◌, IfOk};
 ghost use Rattle.mode_set.specs.Entries.{with_entry};
 ghost use Rattle.mode_set.specs.StreamTable.{need};
-ghost use Rattle.inner_chain.specs.CostTables.{AreCostEntries, settings_of};
+ghost use Rattle.inner_chain.specs.CostTables.{AreCostEntries, block_steps, settings_of};
 
 use crate::alike::are_alike;
 use crate::cost_entries::{cost_table, write_cost_entries};
@@ -91,9 +91,9 @@ impl CostTables {
         &self.metric
     }
 
-    /// The entries of the steps of a stream.
+    /// The entries of the steps of a stream in a block.
     pub(crate) fn entries(&self, stream: Stream) -> &[u16]
-        ensures { AreCostEntries (settings_of self.now) stream (need (settings_of self.now) stream) result.now }
+        ensures { AreCostEntries (settings_of self.now) stream (block_steps (settings_of self.now) stream) result.now }
     {
         match stream {
             Stream::Hp => &self.hp,

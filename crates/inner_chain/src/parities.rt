@@ -62,7 +62,8 @@ fn write_four(row: &[bool; 8], to: &mut [bool], at: usize)
     ensures here { (i : ℕ) → i < 8 → bit to.new (at + i) ≡ bit row.now i }
     ensures before { (k : ℕ) → k < at → bit to.new k ≡ bit to.old k }
 {
-    to[at..at + 8].copy_from_slice(row);
+    let row = *row;
+    to[at..at + 8].copy_from_slice(&row);
 }
 
 // Writes X and Y of the eight steps whose inputs are the lowest 14 bits of a number.

@@ -8,8 +8,9 @@ ghost use Rattle.inner_chain.specs.CostTables.{AreWeights};
 ghost use Rattle.inner_chain.specs.PairLists.{BeginsWithPairs};
 
 use crate::cell_costs::CellCosts;
-use crate::cost_pairs::{push_pairs, write_pairs};
+use crate::cost_pairs::write_symbol;
 use crate::cost_tables::CostTables;
+use crate::plain::push_pairs;
 use conv_code::CostPair;
 use mode_set::{Carriers, Entry, Settings, Stream};
 use qam_map::Cell;
@@ -87,10 +88,7 @@ impl<M: Carriers> InnerRx<M> {
     {
         self.tables.turn_to(entry);
         let settings = self.tables.settings();
-        let metric = self.tables.metric();
-        self.costs.write(&settings, metric, cells, weights, l);
-        let steps = settings.need(stream) as usize;
-        push_pairs(self.costs.costs(), self.tables.entries(stream), steps, to);
+        push_pairs(&self.costs, &settings, cells, weights, l, stream, to);
     }
 
     /// Writes the cost pairs of both streams in symbol `l` of a frame, one for each step in order: those of
@@ -121,13 +119,6 @@ impl<M: Carriers> InnerRx<M> {
         ensures settings { self.new ≡ self.old }
     {
         self.tables.turn_to(entry);
-        let settings = self.tables.settings();
-        let metric = self.tables.metric();
-        self.costs.write(&settings, metric, cells, weights, l);
-        let costs = self.costs.costs();
-        let hp_steps = settings.need(Stream::Hp) as usize;
-        write_pairs(costs, self.tables.entries(Stream::Hp), hp_steps, hp);
-        let lp_steps = settings.need(Stream::Lp) as usize;
-        write_pairs(costs, self.tables.entries(Stream::Lp), lp_steps, lp);
+        write_symbol(&self.tables, &mut self.costs, cells, weights, l, hp, lp);
     }
 }

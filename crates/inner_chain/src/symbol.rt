@@ -6,11 +6,13 @@ ghost use Rattle.mode_set.specs.declared.settings.Settings.{Settings as AnySetti
 ghost use Rattle.inner_chain.specs.Labels.{AppendsLabels, IsBefore, Paths, behind, coded_bits, input_bits};
 ghost use Rattle.inner_chain.specs.Tables.{AreAllParities, AreEntries, AreRows, most_steps};
 
+use crate::fours::{has_fours, push_fours};
 use crate::gather::push_labels;
 use crate::parities::encode;
 use bit_pack::WaitBuf;
 use conv_code::Encoder;
-use mode_set::{Settings, Shape, Stream};
+use mode_set::{Carriers, Settings, Shape, Stream};
+use symbol_interleave::Permutation;
 
 // Takes the input bits of a symbol of each stream, and writes the parities of HP's steps and then
 // those of LP's.
@@ -48,8 +50,8 @@ pub(crate) fn code(
     encode(rows, lp, lp_encoder, parities, hp_steps, lp_steps);
 }
 
-// Appends the labels of a symbol of even or of odd number.
-pub(crate) fn push_symbol(
+// Appends the labels of a symbol of even or of odd number, each bit by its entry: for any parameters.
+pub(crate) fn push_gathered(
     settings: &Settings,
     odd: bool,
     entries: &[u16],
@@ -68,5 +70,29 @@ pub(crate) fn push_symbol(
         Shape::Qpsk => push_labels::<2>(parities, entries, number, to),
         Shape::Qam16 => push_labels::<4>(parities, entries, number, to),
         Shape::Qam64 => push_labels::<6>(parities, entries, number, to),
+    }
+}
+
+// Appends the labels of a symbol of even or of odd number.
+pub(crate) fn push_symbol<M: Carriers>(
+    settings: &Settings,
+    odd: bool,
+    entries: &[u16],
+    parities: &[bool],
+    permutation: &Permutation<M>,
+    to: &mut Vec<u8>,
+)
+    requires mode { settings.now.mode ≡ M.MODE }
+    requires entries { AreEntries settings.now odd entries.now }
+    requires room { 2 * most_steps settings.now.mode ≤ length parities.now }
+    requires spare { vec_len to.old + payload settings.now.mode ≤ vec_capacity to.old }
+    ensures labels { (paths : Paths) → AreAllParities settings.now paths parities.now
+        → AppendsLabels settings.now odd (coded_bits settings.now paths) to.old.items to.new.items }
+    ensures capacity { vec_capacity to.new ≡ vec_capacity to.old }
+{
+    if has_fours(settings) {
+        push_fours(settings, odd, parities, permutation, to);
+    } else {
+        push_gathered(settings, odd, entries, parities, to);
     }
 }

@@ -149,7 +149,14 @@ impl<M: Carriers> InnerTx<M> {
             &mut self.parities,
         );
         let entries = table_of(&settings, odd, &self.even, &self.odd);
-        push_symbol(&settings, odd, entries, &self.parities, to);
+        push_symbol(
+            &settings,
+            odd,
+            entries,
+            &self.parities,
+            &self.permutation,
+            to,
+        );
     }
 
     /// Moves the encoder of a stream on by its next bit, of which no label is made.

@@ -7,3 +7,4 @@ pub mod Stand
 pub mod Rows64
 pub mod Slices
 pub mod Runs
+mod ByteBits

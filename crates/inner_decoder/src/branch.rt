@@ -1,8 +1,9 @@
 // The decoder of one stream, symbol by symbol.
-ghost use Rattle.std.specs.Prelude.{◌≡◌, ◌+◌, ◌<◌, ◌≤◌, ◌^◌, Bool, List, [], ◌∷◌, ◌++◌, false, true, length, IfOk};
+ghost use Rattle.std.specs.Prelude.{◌≡◌, ◌+◌, ◌*◌, ◌<◌, ◌≤◌, ◌^◌, Bool, List, [], ◌∷◌, ◌++◌, false, true, length, IfOk};
 ghost use Rattle.std.specs.Prelude.{IsNone, IfSome, ◌↔◌};
 ghost use Rattle.std.specs.declared.option.Option.{Option};
 ghost use Rattle.std.specs.Option.{option_to_list};
+ghost use Rattle.bit_pack.specs.Queue.{bits_of_bytes};
 ghost use Rattle.spec_words.specs.Bits.{spelled};
 ghost use Rattle.code_paths.specs.declared.costs.CostPair.{CostPair};
 ghost use Rattle.code_paths.specs.Streams.{Reports};
@@ -246,6 +247,18 @@ impl<A: Acs, V: Survivors<2048>> Branch<A, V> {
         ensures rest { self.new ≡ record self.old { wait = self.new.wait } }
     {
         self.wait.take_byte()
+    }
+
+    /// Takes the first pending bits as bytes, first bit of each most significant. As many must be pending as the bytes
+    /// have.
+    pub fn take_bytes(&mut self, to: &mut [u8])
+        requires enough { 8 * length to.old ≤ length self.old.wait }
+        ensures size { length to.new ≡ length to.old }
+        ensures taken { self.old.wait ≡ bits_of_bytes to.new ++ self.new.wait }
+        ensures amount { length self.old.wait ≡ length self.new.wait + 8 * length to.old }
+        ensures rest { self.new ≡ record self.old { wait = self.new.wait } }
+    {
+        self.wait.take_bytes(to);
     }
 
     /// Takes the first pending bit; None exactly if there is none, and then nothing changes.

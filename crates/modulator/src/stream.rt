@@ -25,9 +25,7 @@ fn push_word(word: &[u8], to: &mut WaitBuf)
     ensures bits { to.new ≡ to.old ++ bits_of_bytes word.now }
     ensures amount { length to.new ≡ length to.old + 8 * length word.now }
 {
-    for byte in word {
-        to.push_byte(*byte);
-    }
+    to.push_bytes(word);
 }
 
 impl StreamTx {

@@ -8,7 +8,7 @@ use Rattle.rs204.specs.declared.outcome.Outcome.{Outcome}
 use Rattle.rs204.specs.declared.outcome.Outcome.TheVariants.{Clean, Corrected, Bad}
 use Rattle.outer_chain.specs.Nears.{near_of}
 use Rattle.outer_chain.specs.Words.{word_at, IsNear, phase_of, phase_before, written, given_packet, packets_to, Tally, tally_to, count, is_clean, has}
-use Rattle.outer_chain.specs.Running.{is_clean_outcome, is_corrected_outcome, is_bad_outcome, counted, bytes_given, NothingFinished, TookByte, FinishedWord, AllFinished, WordStays}
+use Rattle.outer_chain.specs.Running.{is_clean_outcome, is_corrected_outcome, is_bad_outcome, counted, bytes_given, NothingFinished, TookByte, TookBytes, FinishedWord, AllFinished, WordStays}
 use Rattle.outer_chain.proofs.OwnWords.{length-word_at}
 use Rattle.outer_chain.proofs.WordLaws.{word_more, packets_same, phase_same, tally_same, distance_self}
 use Rattle.outer_chain.proofs.DecodedWords.{decoded_is_near, decoded_packet}
@@ -86,16 +86,19 @@ nothing_finished receiver r p = record {
   tally_is = refl;
 }
 
-pub took_byte : TookByte
-took_byte old new bytes out tally done b h r p = record {
+pub took_bytes : TookBytes
+took_bytes old new bytes more out tally done h r p = record {
   receives = r;
-  within = omega (arith, h.within, length-append bytes (b ∷ []));
+  within = omega (arith, h.within, length-append bytes more);
   near = h.near;
-  is_near = λ n l. subst (λ w. IsNear w (h.near n)) (sym (word_more bytes (b ∷ []) n (omega (arith, h.within)))) (h.is_near n l);
+  is_near = λ n l. subst (λ w. IsNear w (h.near n)) (sym (word_more bytes more n (omega (arith, h.within)))) (h.is_near n l);
   phase = p ∙ h.phase;
-  is = h.is ∙ packets_same h.near h.near (word_at bytes) (word_at (bytes ++ b ∷ [])) done (λ k l. refl) (λ k l. sym (word_more bytes (b ∷ []) k (omega (arith, h.within))));
-  tally_is = h.tally_is ∙ tally_same h.near h.near (word_at bytes) (word_at (bytes ++ b ∷ [])) done (λ k l. refl) (λ k l. sym (word_more bytes (b ∷ []) k (omega (arith, h.within))));
+  is = h.is ∙ packets_same h.near h.near (word_at bytes) (word_at (bytes ++ more)) done (λ k l. refl) (λ k l. sym (word_more bytes more k (omega (arith, h.within))));
+  tally_is = h.tally_is ∙ tally_same h.near h.near (word_at bytes) (word_at (bytes ++ more)) done (λ k l. refl) (λ k l. sym (word_more bytes more k (omega (arith, h.within))));
 }
+
+pub took_byte : TookByte
+took_byte old new bytes out tally done b h r p = took_bytes old new bytes (b ∷ []) out tally done h r p
 
 pub finished_word : FinishedWord
 unfolding phase_before

@@ -7,6 +7,7 @@ pub mod BitBytes
 pub mod Filling
 pub mod Places
 pub mod Taking
+pub mod ByteRuns
 pub mod DecodedWords
 pub mod Finishing
 pub mod BurstWords

@@ -32,3 +32,10 @@ pub record Receives (receiver : Receiver) (bytes : List ℕ) : Type 0 where
   pub holds : (p : ℕ) → p < length bytes → length bytes ≤ p + 2448 → slice_index receiver.words (place_of p)
       ≡ slice_index bytes p
   pub start : receiver.start ≡ 11 - length bytes / 204
+
+-- the twelve words and the place of the next byte after these interleaved bytes
+pub record Holds (words : List ℕ) (next : ℕ) (bytes : List ℕ) : Type 0 where
+  pub twelve : length words ≡ 2448
+  pub next_is : next ≡ place_of (length bytes)
+  pub holds : (p : ℕ) → p < length bytes → length bytes ≤ p + 2448 → slice_index words (place_of p)
+      ≡ slice_index bytes p

@@ -64,6 +64,12 @@ abbrev pub TookByte : Type 0
 TookByte = (old new : Receiver) (bytes out : List ℕ) (tally : Tally) (done byte : ℕ) → Finished old bytes out tally done
     → Receives new (bytes ++ byte ∷ []) → new.phase ≡ old.phase → Finished new (bytes ++ byte ∷ []) out tally done
 
+-- more bytes, whether words end with them or not
+abbrev pub TookBytes : Type 0
+TookBytes = (old new : Receiver) (bytes more out : List ℕ) (tally : Tally) (done : ℕ)
+    → Finished old bytes out tally done
+    → Receives new (bytes ++ more) → new.phase ≡ old.phase → Finished new (bytes ++ more) out tally done
+
 -- the next word is finished
 abbrev pub FinishedWord : Type 0
 FinishedWord = (old new : Receiver) (bytes out after decoded : List ℕ) (tally : Tally) (outcome : Outcome) (done : ℕ)

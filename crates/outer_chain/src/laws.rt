@@ -3,7 +3,8 @@
 ghost use Rattle.outer_chain.specs.SendingLaws.{SameBeginning, MorePacketsSent, ByteAfterByte};
 ghost use Rattle.outer_chain.specs.Bits.{ByteOfBits, FirstBits, MoreBits};
 ghost use Rattle.outer_chain.specs.Nears.{CleanIsCodeword, DecodedIsNear, DecodedPacket};
-ghost use Rattle.outer_chain.specs.Running.{NothingFinished, TookByte, FinishedWord, AllFinished, WordStays};
+ghost use Rattle.outer_chain.specs.Running.{NothingFinished, TookByte, TookBytes, FinishedWord, AllFinished};
+ghost use Rattle.outer_chain.specs.Running.{WordStays};
 ghost use Rattle.outer_chain.specs.Laws.{OuterAreBytes, OwnBytes, OwnTally, BurstNear, BurstSameNear, BurstBeginning};
 ghost use Rattle.outer_chain.specs.Laws.{BurstPhases, BurstPackets, OneNear, OnePackets, OneTally, MorePackets};
 
@@ -61,4 +62,9 @@ pub fn receiving()
     ensures byte { TookByte }
     ensures word { FinishedWord }
     ensures all { AllFinished }
+{}
+
+/// A receiver that takes bytes, of which any number may end words, has finished the same words as before.
+pub fn taking()
+    ensures bytes { TookBytes }
 {}

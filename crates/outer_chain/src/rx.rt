@@ -4,7 +4,7 @@ ghost use Rattle.std.specs.Prelude.{◌≡◌, ◌<◌, ◌≤◌, ◌+◌, ◌-
 ghost use Rattle.std.specs.Prelude.{Some, IfOk, IfSome, IsSome, vec_len, vec_capacity};
 ghost use Rattle.outer_chain.specs.Words.{word_at, word_count, phase_of, given_packet, packet_of, has, IsNear};
 ghost use Rattle.outer_chain.specs.Nears.{near_of};
-ghost use Rattle.outer_chain.specs.Receiving.{EndsWord, Receives, undecoded};
+ghost use Rattle.outer_chain.specs.Receiving.{EndsWord, Holds, Receives, undecoded};
 ghost use Rattle.outer_chain.specs.Sent.{packet_at, code_at};
 ghost use Rattle.outer_chain.specs.Bursts.{BurstsOf, NextOfBursts};
 
@@ -109,6 +109,23 @@ fn place_after(place: usize) -> usize
     } else {
         place - LAST
     }
+}
+
+// Puts bytes where they stand in their words, and gives the place of the next one.
+fn put_each(words: &mut [u8], next: usize, bytes: &[u8]) -> usize
+    requires twelve { length words.old ≡ 2448 }
+    requires next { next < 2448 }
+    ensures size { length words.new ≡ 2448 }
+    ensures next { result < 2448 }
+    ensures place { result % 204 ≡ (next + length bytes.now) % 204 }
+    ensures holds { (before : List ℕ) → Holds words.old next before → Holds words.new result (before ++ bytes.now) }
+{
+    let mut place = next;
+    for byte in bytes {
+        words[place] = *byte;
+        place = place_after(place);
+    }
+    place
 }
 
 // The word that begins at this place.
@@ -218,6 +235,47 @@ impl OuterRx {
         }
         self.filled = 0;
         end_word(self.words.as_slice(), place - LAST, &mut self.start, slots);
+    }
+
+    /// How many bytes the word that is being received still needs, at least one.
+    pub fn to_end(&self) -> usize
+        ensures is { result + self.now.next % 204 ≡ 204 }
+        ensures some { 0 < result }
+    {
+        WORD - self.filled
+    }
+
+    /// Takes the next interleaved bytes, as [`OuterRx::put_byte`] does one by one, and appends the word
+    /// that ends with the last of them, still to be decoded, exactly where a word behind the eleven of the
+    /// start-up ends with it. There is at least one byte, none of them is behind the end of the word that
+    /// is being received, which `to_end` tells, and there is room for one word; the capacity stays. Where
+    /// the bytes are those of packets with bursts, the word's nearest codeword is that of its packet, as
+    /// without them.
+    pub fn put_bytes(&mut self, bytes: &[u8], slots: &mut Vec<WordSlot>)
+        requires some { 0 < length bytes.now }
+        requires within { self.old.next % 204 + length bytes.now ≤ 204 }
+        requires room { vec_len slots.old < vec_capacity slots.old }
+        ensures capacity { vec_capacity slots.new ≡ vec_capacity slots.old }
+        ensures stands { (before : List ℕ) → Receives self.old before → Receives self.new (before ++ bytes.now) }
+        ensures word { (before : List ℕ) → Receives self.old before → EndsWord (before ++ bytes.now) → slots.new.items
+            ≡ slots.old.items ++ undecoded (before ++ bytes.now) (word_count (before ++ bytes.now) - 1) ∷ [] }
+        ensures none { (before : List ℕ) → Receives self.old before → (EndsWord (before ++ bytes.now) → ⊥)
+            → slots.new.items ≡ slots.old.items }
+        ensures bursts { (before : List ℕ) (packets : List (List ℕ)) → Receives self.old before
+            → BurstsOf packets (before ++ bytes.now) → EndsWord (before ++ bytes.now)
+            → IsNear (word_at (before ++ bytes.now) (word_count (before ++ bytes.now) - 1))
+            (Some (code_at packets (word_count (before ++ bytes.now) - 1))) }
+        ensures phase { self.new.phase ≡ self.old.phase }
+    {
+        let next = put_each(self.words.as_mut_slice(), self.next, bytes);
+        self.next = next;
+        let filled = self.filled + bytes.len();
+        if filled < WORD {
+            self.filled = filled;
+            return;
+        }
+        self.filled = 0;
+        end_word(self.words.as_slice(), next, &mut self.start, slots);
     }
 
     /// The packet of a decoded word, meant for each word in order: none exactly where the word has no

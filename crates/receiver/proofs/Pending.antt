@@ -1,10 +1,10 @@
 -- Words to be finished, and their packets.
 use Rattle.std.proofs.Common.{◌≡◌, ℕ, ◌+◌, ◌-◌, ◌*◌, ◌%◌, ◌<◌, ◌≤◌, Bool, not, cond, inl, inr, ◌⊎◌, List, [], ◌∷◌, ◌++◌, length, get_or, refl, sym, ap, ap₂, ◌∙◌, subst, arith, length-append, append_assoc, append-nil}
-use Rattle.std.specs.Prelude.{Option, Some, None, is_some}
+use Rattle.std.specs.Prelude.{All, Option, Some, None, is_some}
 use Rattle.std.proofs.lemmas.Bool.{cases_lt}
-use Rattle.std.proofs.lemmas.List.{get_or_append_left}
+use Rattle.std.proofs.lemmas.List.{get_or_append_left, get_or_default}
 use Rattle.std.proofs.Math.Seq.{get_or-append_seam}
-use Rattle.std.proofs.lemmas.List.Elements.{All-nil, All-push}
+use Rattle.std.proofs.lemmas.List.Elements.{All-nil, All-append}
 use Rattle.spec_words.specs.Bits.{spelled}
 use Rattle.bit_pack.specs.Queue.{bits_of_bytes}
 use Rattle.rs204.specs.Decoded.{Decoded}
@@ -14,53 +14,53 @@ use Rattle.outer_chain.specs.declared.slot.WordSlot.{WordSlot}
 use Rattle.outer_chain.specs.Receiving.{Receiver, Receives, EndsWord, undecoded}
 use Rattle.outer_chain.specs.Nears.{near_of}
 use Rattle.outer_chain.specs.Running as running
-use Rattle.outer_chain.specs.Running.{Finished, TookByte, FinishedWord, WordStays, bytes_given, is_clean_outcome, is_corrected_outcome, is_bad_outcome}
+use Rattle.outer_chain.specs.Running.{Finished, TookBytes, FinishedWord, WordStays, bytes_given, is_clean_outcome, is_corrected_outcome, is_bad_outcome}
 use Rattle.outer_chain.specs.Words.{Tally, word_at, word_count, phase_of, given_packet, has}
 use Rattle.rx_report.specs.declared.counts.StreamCounts.{StreamCounts}
 use Rattle.reception.specs.Lines.{stream_counts}
 use Rattle.receiver.specs.Words.{AreWords, AreDecoded, DecodesAll, Took, Passed, Collected, counted, Wrote, Gives, AreFew}
 
--- ---- one more byte
+-- ---- more bytes of a word
 
-finished_more : TookByte → (old new : Receiver) (bytes given : List ℕ) (tally : Tally) (done byte : ℕ) → Finished old bytes given tally done → ((z : List ℕ) → Receives old z → Receives new (z ++ byte ∷ [])) → new.phase ≡ old.phase → Finished new (bytes ++ byte ∷ []) given tally done
-finished_more took old new bytes given tally done byte h stands phase = took old new bytes given tally done byte h (stands bytes h.receives) phase
+finished_more : TookBytes → (old new : Receiver) (bytes more given : List ℕ) (tally : Tally) (done : ℕ) → Finished old bytes given tally done → ((z : List ℕ) → Receives old z → Receives new (z ++ more)) → new.phase ≡ old.phase → Finished new (bytes ++ more) given tally done
+finished_more took old new bytes more given tally done h stands phase = took old new bytes more given tally done h (stands bytes h.receives) phase
 
-took_word : TookByte → WordStays → (old new : Receiver) (bytes given : List ℕ) (tally : Tally) (done byte : ℕ) (before after : List WordSlot) (slot : WordSlot) → Finished old bytes given tally done
-    → ((z : List ℕ) → Receives old z → Receives new (z ++ byte ∷ [])) → new.phase ≡ old.phase → EndsWord (bytes ++ byte ∷ []) → slot.word ≡ word_at (bytes ++ byte ∷ []) (word_count (bytes ++ byte ∷ []) - 1) → after ≡ before ++ slot ∷ []
-    → Took new byte bytes given tally done before after
-took_word took stay old new bytes given tally done byte before after slot h stands phase ends word is =
-    let long = length-append bytes (byte ∷ []) in
-    let more : length after ≡ length before + 1 = ap length is ∙ length-append before (slot ∷ []) in
-    let one : word_count (bytes ++ byte ∷ []) ≡ word_count bytes + 1 = omega (arith, long, ends.0, ends.1) in
+took_word : TookBytes → WordStays → (old new : Receiver) (bytes more given : List ℕ) (tally : Tally) (done : ℕ) (before after : List WordSlot) (slot : WordSlot) → Finished old bytes given tally done → 0 < length more → length bytes % 204 + length more ≤ 204
+    → ((z : List ℕ) → Receives old z → Receives new (z ++ more)) → new.phase ≡ old.phase → EndsWord (bytes ++ more) → slot.word ≡ word_at (bytes ++ more) (word_count (bytes ++ more) - 1) → after ≡ before ++ slot ∷ []
+    → Took new more bytes given tally done before after
+took_word took stay old new bytes more given tally done before after slot h some short stands phase ends word is =
+    let longer : length after ≡ length before + 1 = ap length is ∙ length-append before (slot ∷ []) in
     record {
-      finished = finished_more took old new bytes given tally done byte h stands phase;
-      all = λ e. omega (arith, e, more, one);
+      finished = finished_more took old new bytes more given tally done h stands phase;
+      all = λ e. omega (arith, e, longer, one);
       words = λ e w i d l. go e w i d l (cases_lt i (length before));
     }
   where
-    go : done + length before ≡ word_count bytes → AreWords bytes done before → (i : ℕ) (d : WordSlot) → i < length after → (i < length before) ⊎ (length before ≤ i) → (get_or after i d).word ≡ word_at (bytes ++ byte ∷ []) (done + i)
+    one : word_count (bytes ++ more) ≡ word_count bytes + 1
+    one = omega (arith, length-append bytes more, ends.0, ends.1, some, short)
+
+    go : done + length before ≡ word_count bytes → AreWords bytes done before → (i : ℕ) (d : WordSlot) → i < length after → (i < length before) ⊎ (length before ≤ i) → (get_or after i d).word ≡ word_at (bytes ++ more) (done + i)
     go e w i d l (inl k) =
         ap (λ (z : List WordSlot). (get_or z i d).word) is ∙ ap (λ (z : WordSlot). z.word) (get_or_append_left before (slot ∷ []) d i k)
-        ∙ w i d k ∙ sym (stay bytes (byte ∷ []) (done + i) (omega (arith, e, k)))
+        ∙ w i d k ∙ sym (stay bytes more (done + i) (omega (arith, e, k)))
     go e w i d l (inr k) =
         let here : i ≡ length before = omega (arith, l, k, ap length is, length-append before (slot ∷ [])) in
-        let last : word_count (bytes ++ byte ∷ []) - 1 ≡ done + i = omega (arith, here, e, length-append bytes (byte ∷ []), ends.0, ends.1) in
-        ap₂ (λ (z : List WordSlot) (j : ℕ). (get_or z j d).word) is here ∙ ap (λ (z : WordSlot). z.word) (get_or-append_seam before slot [] d) ∙ word ∙ ap (word_at (bytes ++ byte ∷ [])) last
+        let last : word_count (bytes ++ more) - 1 ≡ done + i = omega (arith, here, e, one) in
+        ap₂ (λ (z : List WordSlot) (j : ℕ). (get_or z j d).word) is here ∙ ap (λ (z : WordSlot). z.word) (get_or-append_seam before slot [] d) ∙ word ∙ ap (word_at (bytes ++ more)) last
 
-took_none : TookByte → WordStays → (old new : Receiver) (bytes given : List ℕ) (tally : Tally) (done byte : ℕ) (before after : List WordSlot) → Finished old bytes given tally done
-    → ((z : List ℕ) → Receives old z → Receives new (z ++ byte ∷ [])) → new.phase ≡ old.phase → (EndsWord (bytes ++ byte ∷ []) → ⊥) → after ≡ before → Took new byte bytes given tally done before after
-took_none took stay old new bytes given tally done byte before after h stands phase none is =
-    let long = length-append bytes (byte ∷ []) in
-    let same : word_count (bytes ++ byte ∷ []) ≡ word_count bytes = go (cases_lt (word_count bytes) (word_count (bytes ++ byte ∷ []))) in
+took_none : TookBytes → WordStays → (old new : Receiver) (bytes more given : List ℕ) (tally : Tally) (done : ℕ) (before after : List WordSlot) → Finished old bytes given tally done → length bytes % 204 + length more ≤ 204
+    → ((z : List ℕ) → Receives old z → Receives new (z ++ more)) → new.phase ≡ old.phase → (EndsWord (bytes ++ more) → ⊥) → after ≡ before → Took new more bytes given tally done before after
+took_none took stay old new bytes more given tally done before after h short stands phase none is =
+    let same : word_count (bytes ++ more) ≡ word_count bytes = go (cases_lt (word_count bytes) (word_count (bytes ++ more))) in
     record {
-      finished = finished_more took old new bytes given tally done byte h stands phase;
+      finished = finished_more took old new bytes more given tally done h stands phase;
       all = λ e. ap (λ (z : List WordSlot). done + length z) is ∙ e ∙ sym same;
-      words = λ e w. subst (AreWords (bytes ++ byte ∷ []) done) (sym is) (λ i d l. w i d l ∙ sym (stay bytes (byte ∷ []) (done + i) (omega (arith, e, l))));
+      words = λ e w. subst (AreWords (bytes ++ more) done) (sym is) (λ i d l. w i d l ∙ sym (stay bytes more (done + i) (omega (arith, e, l))));
     }
   where
-    go : (word_count bytes < word_count (bytes ++ byte ∷ [])) ⊎ (word_count (bytes ++ byte ∷ []) ≤ word_count bytes) → word_count (bytes ++ byte ∷ []) ≡ word_count bytes
-    go (inl k) = absurd (none (omega (arith, k, length-append bytes (byte ∷ [])), omega (arith, k)))
-    go (inr k) = omega (arith, k, length-append bytes (byte ∷ []))
+    go : (word_count bytes < word_count (bytes ++ more)) ⊎ (word_count (bytes ++ more) ≤ word_count bytes) → word_count (bytes ++ more) ≡ word_count bytes
+    go (inl k) = absurd (none (omega (arith, k, short, length-append bytes more), omega (arith, k)))
+    go (inr k) = omega (arith, k, length-append bytes more)
 
 ends_or : (bytes : List ℕ) → EndsWord bytes ⊎ (EndsWord bytes → ⊥)
 ends_or bytes = go (cases_lt 0 (length bytes % 204)) (cases_lt 0 (word_count bytes))
@@ -70,22 +70,28 @@ ends_or bytes = go (cases_lt 0 (length bytes % 204)) (cases_lt 0 (word_count byt
     go (inr l) (inl w) = inl (omega (arith, l), w)
     go (inr l) (inr w) = inr (λ e. omega (arith, w, e.1))
 
--- the word that the byte completes, or none, was appended to the slots
-pub took_put : TookByte → WordStays → (old new : Receiver) (bytes given : List ℕ) (tally : Tally) (done byte : ℕ) (before after : List WordSlot) → Finished old bytes given tally done
-    → ((z : List ℕ) → Receives old z → Receives new (z ++ byte ∷ [])) → new.phase ≡ old.phase
-    → ((z : List ℕ) → Receives old z → EndsWord (z ++ byte ∷ []) → after ≡ before ++ undecoded (z ++ byte ∷ []) (word_count (z ++ byte ∷ []) - 1) ∷ [])
-    → ((z : List ℕ) → Receives old z → (EndsWord (z ++ byte ∷ []) → ⊥) → after ≡ before) → Took new byte bytes given tally done before after
-took_put took stay old new bytes given tally done byte before after h stands phase word none = go (ends_or (bytes ++ byte ∷ []))
+-- the word that the bytes complete, or none, was appended to the slots
+pub took_put : TookBytes → WordStays → (old new : Receiver) (bytes more given : List ℕ) (tally : Tally) (done : ℕ) (before after : List WordSlot) → Finished old bytes given tally done → 0 < length more → old.next % 204 + length more ≤ 204
+    → ((z : List ℕ) → Receives old z → Receives new (z ++ more)) → new.phase ≡ old.phase
+    → ((z : List ℕ) → Receives old z → EndsWord (z ++ more) → after ≡ before ++ undecoded (z ++ more) (word_count (z ++ more) - 1) ∷ [])
+    → ((z : List ℕ) → Receives old z → (EndsWord (z ++ more) → ⊥) → after ≡ before) → Took new more bytes given tally done before after
+took_put took stay old new bytes more given tally done before after h some within stands phase word none = go (ends_or (bytes ++ more))
   where
-    go : EndsWord (bytes ++ byte ∷ []) ⊎ (EndsWord (bytes ++ byte ∷ []) → ⊥) → Took new byte bytes given tally done before after
-    go (inl e) = took_word took stay old new bytes given tally done byte before after (undecoded (bytes ++ byte ∷ []) (word_count (bytes ++ byte ∷ []) - 1)) h stands phase e refl (word bytes h.receives e)
-    go (inr n) = took_none took stay old new bytes given tally done byte before after h stands phase n (none bytes h.receives n)
+    short : length bytes % 204 + length more ≤ 204
+    short = omega (arith, within, h.receives.next)
+
+    go : EndsWord (bytes ++ more) ⊎ (EndsWord (bytes ++ more) → ⊥) → Took new more bytes given tally done before after
+    go (inl e) = took_word took stay old new bytes more given tally done before after (undecoded (bytes ++ more) (word_count (bytes ++ more) - 1)) h some short stands phase e refl (word bytes h.receives e)
+    go (inr n) = took_none took stay old new bytes more given tally done before after h short stands phase n (none bytes h.receives n)
 
 -- ---- the bytes of a symbol
 
-bits_push : (more : List ℕ) (byte : ℕ) → bits_of_bytes (more ++ byte ∷ []) ≡ bits_of_bytes more ++ spelled 8 byte
-bits_push [] byte = append-nil (spelled 8 byte)
-bits_push (b ∷ more) byte = ap (λ z. spelled 8 b ++ z) (bits_push more byte) ∙ sym (append_assoc (spelled 8 b) (bits_of_bytes more) (spelled 8 byte))
+bits_join : (some more : List ℕ) → bits_of_bytes (some ++ more) ≡ bits_of_bytes some ++ bits_of_bytes more
+bits_join [] more = refl
+bits_join (b ∷ some) more = ap (λ z. spelled 8 b ++ z) (bits_join some more) ∙ sym (append_assoc (spelled 8 b) (bits_of_bytes some) (bits_of_bytes more))
+
+pub all_bytes : (bytes : List ℕ) → ((k : ℕ) → get_or bytes k 0 < 256) → All (λ b. b < 256) bytes
+all_bytes bytes small k d l = subst (λ z. z < 256) (get_or_default bytes k 0 d l) (small k)
 
 pub collected_none : (wait : List Bool) (bytes given : List ℕ) (tally : Tally) (outer : Receiver) (slots : List WordSlot) → slots ≡ [] → Finished outer bytes given tally (word_count bytes) → Collected wait bytes given tally (word_count bytes) 0 outer wait slots
 collected_none wait bytes given tally outer slots none h = record {
@@ -98,16 +104,16 @@ collected_none wait bytes given tally outer slots none h = record {
   words = λ i d l. absurd (omega (arith, l, ap length none));
 }
 
-pub collected_more : (wait left next : List Bool) (bytes given : List ℕ) (tally : Tally) (done k : ℕ) (outer new : Receiver) (slots more_slots : List WordSlot) → Collected wait bytes given tally done k outer left slots
-    → ((z out : List ℕ) (t : Tally) (n : ℕ) → Finished outer z out t n → Passed left next new z out t n slots more_slots) → Collected wait bytes given tally done (k + 1) new next more_slots
-collected_more wait left next bytes given tally done k outer new slots more_slots h pass =
+pub collected_more : (wait left next : List Bool) (bytes given : List ℕ) (tally : Tally) (done k number : ℕ) (outer new : Receiver) (slots more_slots : List WordSlot) → Collected wait bytes given tally done k outer left slots
+    → ((z out : List ℕ) (t : Tally) (n : ℕ) → Finished outer z out t n → Passed left next number new z out t n slots more_slots) → Collected wait bytes given tally done (k + number) new next more_slots
+collected_more wait left next bytes given tally done k number outer new slots more_slots h pass =
     let p = pass (bytes ++ h.more) given tally done h.finished in
-    let e : (bytes ++ h.more) ++ p.byte ∷ [] ≡ bytes ++ (h.more ++ p.byte ∷ []) = append_assoc bytes h.more (p.byte ∷ []) in
+    let e : (bytes ++ h.more) ++ p.more ≡ bytes ++ (h.more ++ p.more) = append_assoc bytes h.more p.more in
     record {
-      more = h.more ++ p.byte ∷ [];
-      long = length-append h.more (p.byte ∷ []) ∙ (omega (arith, h.long));
-      bits = h.bits ∙ ap (λ z. bits_of_bytes h.more ++ z) p.bits ∙ sym (append_assoc (bits_of_bytes h.more) (spelled 8 p.byte) next) ∙ ap (λ z. z ++ next) (sym (bits_push h.more p.byte));
-      small = All-push (λ b. b < 256) h.more p.byte h.small p.small;
+      more = h.more ++ p.more;
+      long = length-append h.more p.more ∙ (omega (arith, h.long, p.long));
+      bits = h.bits ∙ ap (λ z. bits_of_bytes h.more ++ z) p.bits ∙ sym (append_assoc (bits_of_bytes h.more) (bits_of_bytes p.more) next) ∙ ap (λ z. z ++ next) (sym (bits_join h.more p.more));
+      small = All-append (λ b. b < 256) h.more p.more h.small p.small;
       finished = subst (λ z. Finished new z given tally done) e p.took.finished;
       all = p.took.all h.all ∙ ap word_count e;
       words = subst (λ z. AreWords z done more_slots) e (p.took.words h.all h.words);

@@ -34,20 +34,21 @@ pub record Started (outer : Receiver) : Type 0 where
   pub tally : Tally
   pub finished : Finished outer bytes given tally (word_count bytes)
 
--- one more byte; the slots still hold the unfinished words
-pub record Took (outer : Receiver) (byte : ℕ) (bytes given : List ℕ) (tally : Tally) (done : ℕ)
+-- more bytes; the slots still hold the unfinished words
+pub record Took (outer : Receiver) (more bytes given : List ℕ) (tally : Tally) (done : ℕ)
     (old new : List WordSlot) : Type 0 where
-  pub finished : Finished outer (bytes ++ byte ∷ []) given tally done
-  pub all : done + length old ≡ word_count bytes → done + length new ≡ word_count (bytes ++ byte ∷ [])
-  pub words : done + length old ≡ word_count bytes → AreWords bytes done old → AreWords (bytes ++ byte ∷ []) done new
+  pub finished : Finished outer (bytes ++ more) given tally done
+  pub all : done + length old ≡ word_count bytes → done + length new ≡ word_count (bytes ++ more)
+  pub words : done + length old ≡ word_count bytes → AreWords bytes done old → AreWords (bytes ++ more) done new
 
--- the same, if the byte is the first of the pending bits
-pub record Passed (wait left : List Bool) (outer : Receiver) (bytes given : List ℕ) (tally : Tally) (done : ℕ)
+-- the same, if these are the first k bytes of the pending bits
+pub record Passed (wait left : List Bool) (k : ℕ) (outer : Receiver) (bytes given : List ℕ) (tally : Tally) (done : ℕ)
     (old new : List WordSlot) : Type 0 where
-  pub byte : ℕ
-  pub small : byte < 256
-  pub bits : wait ≡ spelled 8 byte ++ left
-  pub took : Took outer byte bytes given tally done old new
+  pub more : List ℕ
+  pub long : length more ≡ k
+  pub small : All (λ b. b < 256) more
+  pub bits : wait ≡ bits_of_bytes more ++ left
+  pub took : Took outer more bytes given tally done old new
 
 -- k bytes of the pending bits were taken
 pub record Collected (wait : List Bool) (bytes given : List ℕ) (tally : Tally) (done k : ℕ) (outer : Receiver)

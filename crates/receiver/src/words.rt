@@ -1,6 +1,6 @@
 // From the bits of a decoder to packets.
-ghost use Rattle.std.specs.Prelude.{◌≡◌, ◌+◌, ◌-◌, ◌*◌, ◌/◌, ◌<◌, ◌≤◌, ◌^◌, ◌++◌, [], ℕ, List, not, cond, length};
-ghost use Rattle.std.specs.Prelude.{vec_len, vec_capacity};
+ghost use Rattle.std.specs.Prelude.{◌≡◌, ◌+◌, ◌-◌, ◌*◌, ◌/◌, ◌%◌, ◌<◌, ◌≤◌, ◌^◌, ◌++◌, [], ℕ, List, All, not, cond};
+ghost use Rattle.std.specs.Prelude.{length, vec_len, vec_capacity};
 ghost use Rattle.rs204.specs.Decoded.{Decoded};
 ghost use Rattle.outer_chain.specs.Words.{Tally, word_at, word_count};
 ghost use Rattle.outer_chain.specs.Running.{Finished, bytes_given, is_clean_outcome, is_corrected_outcome};
@@ -20,33 +20,54 @@ use word_workers::{Gate, decode_all};
 /// The most words that one symbol completes.
 pub(crate) const WORDS: usize = 24;
 
-/// Takes a byte of the stream, and keeps the word that ends with it, if one does.
-fn take_byte(outer: &mut OuterRx, byte: u8, slots: &mut Vec<WordSlot>)
+/// Takes bytes of the stream, none of them behind the end of its word, and keeps the word that ends with them, if one
+/// does.
+fn take_run(outer: &mut OuterRx, bytes: &[u8], slots: &mut Vec<WordSlot>)
+    requires some { 0 < length bytes.now }
+    requires within { outer.old.next % 204 + length bytes.now ≤ 204 }
     requires room { vec_len slots.old < vec_capacity slots.old }
     ensures capacity { vec_capacity slots.new ≡ vec_capacity slots.old }
-    ensures small { byte < 256 }
-    ensures took { (bytes given : List ℕ) (tally : Tally) (done : ℕ) → Finished outer.old bytes given tally done
-        → Took outer.new byte bytes given tally done slots.old.items slots.new.items }
+    ensures small { All (λ b. b < 256) bytes.now }
+    ensures took { (before given : List ℕ) (tally : Tally) (done : ℕ) → Finished outer.old before given tally done
+        → Took outer.new bytes.now before given tally done slots.old.items slots.new.items }
 {
-    receiving();
+    outer_chain::laws::taking();
     outer_chain::laws::growth();
-    outer.put_byte(byte, slots);
+    outer.put_bytes(bytes, slots);
 }
 
-/// Takes the first byte of the pending bits, of which there are at least eight.
-fn pass_byte(branch: &mut StreamBranch, outer: &mut OuterRx, slots: &mut Vec<WordSlot>)
-    requires wait { 8 ≤ length branch.old.wait }
+/// Takes the first bytes of the pending bits, which have as many, and none of them behind the end of its word.
+fn pass_run(
+    branch: &mut StreamBranch,
+    outer: &mut OuterRx,
+    number: usize,
+    slots: &mut Vec<WordSlot>,
+)
+    requires some { 0 < number }
+    requires wait { 8 * number ≤ length branch.old.wait }
+    requires within { outer.old.next % 204 + number ≤ 204 }
     requires room { vec_len slots.old < vec_capacity slots.old }
     ensures capacity { vec_capacity slots.new ≡ vec_capacity slots.old }
-    ensures wait { length branch.old.wait ≡ length branch.new.wait + 8 }
+    ensures wait { length branch.old.wait ≡ length branch.new.wait + 8 * number }
     ensures rest { branch.new ≡ record branch.old { wait = branch.new.wait } }
     ensures passed { (bytes given : List ℕ) (tally : Tally) (done : ℕ) → Finished outer.old bytes given tally done
-        → Passed branch.old.wait branch.new.wait outer.new bytes given tally done slots.old.items slots.new.items }
+        → Passed branch.old.wait branch.new.wait number outer.new bytes given tally done slots.old.items
+        slots.new.items }
 {
-    match branch.take_byte() {
-        Some(byte) => take_byte(outer, byte, slots),
-        None => {}
-    }
+    let mut bytes = [0u8; 204];
+    let run = &mut bytes[..number];
+    branch.take_bytes(run);
+    take_run(outer, run, slots);
+}
+
+/// How many of the next bytes to take at once: up to the end of their word.
+fn run_of(outer: &OuterRx, left: usize) -> usize
+    requires some { 0 < left }
+    ensures some { 0 < result }
+    ensures few { result ≤ left }
+    ensures within { outer.now.next % 204 + result ≤ 204 }
+{
+    outer.to_end().min(left)
 }
 
 /// Takes the whole bytes of the pending bits, and keeps the words that end with them, at most 24.
@@ -62,8 +83,12 @@ pub(crate) fn collect(branch: &mut StreamBranch, outer: &mut OuterRx, slots: &mu
         → Collected branch.old.wait bytes given tally (word_count bytes) (length branch.old.wait / 8) outer.new
         branch.new.wait slots.new.items }
 {
-    for _k in 0..branch.waiting() / 8 {
-        pass_byte(branch, outer, slots);
+    let all = branch.waiting() as usize / 8;
+    let mut taken = 0;
+    while taken < all {
+        let number = run_of(outer, all - taken);
+        pass_run(branch, outer, number, slots);
+        taken += number;
     }
 }
 

@@ -140,7 +140,7 @@ bits_append : (xs ys : List ℕ) → bits_of_bytes (xs ++ ys) ≡ bits_of_bytes 
 bits_append [] ys = refl
 bits_append (x ∷ xs) ys = ap (λ z. spelled 8 x ++ z) (bits_append xs ys) ∙ sym (append_assoc (spelled 8 x) (bits_of_bytes xs) (bits_of_bytes ys))
 
-bits_take : (bytes : List ℕ) (k : ℕ) → bits_of_bytes (take k bytes) ≡ take (8 * k) (bits_of_bytes bytes)
+pub bits_take : (bytes : List ℕ) (k : ℕ) → bits_of_bytes (take k bytes) ≡ take (8 * k) (bits_of_bytes bytes)
 bits_take bytes zero = refl
 bits_take [] (suc k) = sym (none_left (8 * suc k))
   where

@@ -129,11 +129,6 @@ both_traced older newer items state between byte last old mid new e b f s p q =
 
 -- ---- appended bits
 
-pub whole_more : (bytes : List ℕ) (k : ℕ) (to now new : List Bool) → k < length bytes → now ≡ to ++ take (8 * k) (bits_of_bytes bytes) → new ≡ now ++ spelled 8 (slice_index bytes k) → new ≡ to ++ take (8 * (k + 1)) (bits_of_bytes bytes)
-whole_more bytes k to now new l e f =
-    let p : 8 * (k + 1) - 8 * k ≡ 8 = omega arith in
-    parts_join (bits_of_bytes bytes) to now new (spelled 8 (slice_index bytes k)) (8 * k) (8 * (k + 1)) (omega arith) e f (sym (ap (λ z. take z (drop (8 * k) (bits_of_bytes bytes))) p ∙ chunk_is bytes k l))
-
 pub first_more : (byte k : ℕ) (to now new : List Bool) (b : Bool) → k < 8 → now ≡ to ++ take k (spelled 8 byte) → new ≡ now ++ b ∷ [] → b ≡ is_set byte (7 - k) → new ≡ to ++ take (k + 1) (spelled 8 byte)
 first_more byte k to now new b l e f g =
     f ∙ ap₂ (λ x y. x ++ y ∷ []) e (g ∙ sym (spelled_at byte k l)) ∙ append_assoc to (take k (spelled 8 byte)) (get_or (spelled 8 byte) k false ∷ []) ∙ ap (λ z. to ++ z) (sym (take_more (spelled 8 byte) k false l))

@@ -73,9 +73,7 @@ fn append_whole(bytes: &[u8; 257], number: usize, to: &mut WaitBuf)
     ensures bits { to.new ≡ to.old ++ take (8 * number) (bits_of_bytes bytes.now) }
     ensures amount { length to.new ≡ length to.old + 8 * number }
 {
-    for k in 0..number {
-        to.push_byte(bytes[k]);
-    }
+    to.push_bytes(&bytes[..number]);
 }
 
 /// Appends the first bits of a byte.

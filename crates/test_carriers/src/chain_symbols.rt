@@ -2,6 +2,7 @@
 ghost use Rattle.std.specs.Prelude.{◌≡◌};
 ghost use Rattle.mode_set.specs.declared.modes.Mode.TheVariants.{M2k};
 
+use crate::parameters::two_streams;
 use crate::sending::{drawn_bytes, labels_of};
 use inner_chain::InnerTx;
 use mode_set::{Carriers, Hierarchy, Mode, Mode2k, Mode8k, Rate, Settings, Shape};
@@ -9,7 +10,7 @@ use std::alloc::Global;
 use std::process::Abort;
 use std::rt::HostRuntime;
 use std::test::Fail;
-use test_tools::{flat, hierarchical};
+use test_tools::flat;
 
 fn sum_of(labels: &[u8]) -> u32 {
     labels.iter().fold(
@@ -71,13 +72,7 @@ fn one() -> Settings
 fn two() -> Settings
     ensures { result.mode ≡ M2k }
 {
-    hierarchical(
-        Mode::M2k,
-        Shape::Qam16,
-        Hierarchy::Alpha4,
-        Rate::R5of6,
-        Rate::R3of4,
-    )
+    two_streams(Shape::Qam16, Hierarchy::Alpha4, (Rate::R5of6, Rate::R3of4))
 }
 
 // Their sums by one coder whose parameters change and change back.

@@ -17,6 +17,8 @@ mod kinds_by_rule;
 #[cfg(test)]
 mod metrics;
 #[cfg(test)]
+mod parameters;
+#[cfg(test)]
 mod permutations;
 #[cfg(test)]
 mod points;

@@ -2,6 +2,7 @@
 ghost use Rattle.std.specs.Prelude.{◌<◌};
 ghost use Rattle.mode_set.specs.StreamTable.{label_bits};
 
+use crate::parameters::CONSTELLATIONS;
 use mode_set::{Hierarchy, Shape};
 use qam_map::{Cell, map};
 use soft_metric::{costs, costs_lanes, weighted};
@@ -89,18 +90,6 @@ fn edges_are_plain(rt: &impl Abort, shape: Shape, hierarchy: Hierarchy) {
     }
 }
 
-const CASES: [(Shape, Hierarchy); 9] = [
-    (Shape::Qpsk, Hierarchy::Flat),
-    (Shape::Qam16, Hierarchy::Flat),
-    (Shape::Qam16, Hierarchy::Alpha1),
-    (Shape::Qam16, Hierarchy::Alpha2),
-    (Shape::Qam16, Hierarchy::Alpha4),
-    (Shape::Qam64, Hierarchy::Flat),
-    (Shape::Qam64, Hierarchy::Alpha1),
-    (Shape::Qam64, Hierarchy::Alpha2),
-    (Shape::Qam64, Hierarchy::Alpha4),
-];
-
 // Value number `step` of 2000 spread over the range.
 fn spread(step: u32) -> i16
     requires { step < 2000 }
@@ -110,7 +99,7 @@ fn spread(step: u32) -> i16
 
 #[test]
 fn costs_are_the_plain_least(rt: HostRuntime) {
-    for (shape, hierarchy) in CASES {
+    for (shape, hierarchy) in CONSTELLATIONS {
         edges_are_plain(&rt, shape, hierarchy);
         for step in 0..2000u32 {
             are_plain(&rt, shape, hierarchy, spread(step));
@@ -135,7 +124,7 @@ fn sixteen(first: u32) -> [Cell; 16]
 
 #[test]
 fn lanes_are_single_costs(rt: HostRuntime) {
-    for (shape, hierarchy) in CASES {
+    for (shape, hierarchy) in CONSTELLATIONS {
         for block in 0..125u32 {
             let cells = sixteen(16 * block);
             for place in 0..shape.label_bits() {

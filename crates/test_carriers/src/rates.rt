@@ -1,20 +1,13 @@
 // Puncturing against outside values: the standard's table, and coded bytes of an independent program.
 ghost use Rattle.std.specs.Prelude.{◌≤◌};
 
+use crate::parameters::RATES;
 use bit_pack::BitBuf;
 use conv_code::Encoder;
 use mode_set::Rate;
 use puncture::{Depuncturer, PuncturedEncoder, Puncturer, Sent, sent};
 use std::alloc::Global;
 use std::process::Abort;
-
-const RATES: [Rate; 5] = [
-    Rate::R1of2,
-    Rate::R2of3,
-    Rate::R3of4,
-    Rate::R5of6,
-    Rate::R7of8,
-];
 
 // A letter a step: B for both, X or Y for one.
 fn letter(sent: Sent) -> char {

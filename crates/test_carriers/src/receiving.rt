@@ -1,6 +1,7 @@
 // Sent symbols read back: a symbol in pieces, and the costs of the modulator's own symbols.
 ghost use Rattle.std.specs.Prelude.{◌≡◌, ◌*◌, length};
 
+use crate::parameters::{RATES, two_streams};
 use crate::sending::{drawn_bytes, first_symbols};
 use conv_code::{CostPair, Encoder};
 use frame_build::SymbolIn;
@@ -186,14 +187,6 @@ fn come_back(rt: &impl Abort, alloc: Global, settings: &Settings, (hp, lp): &Str
     assert!(rt; costs.len() == 4 && costs.iter().all(|(_, lp)| lp.is_empty() != has_lp));
 }
 
-const RATES: [Rate; 5] = [
-    Rate::R1of2,
-    Rate::R2of3,
-    Rate::R3of4,
-    Rate::R5of6,
-    Rate::R7of8,
-];
-
 fn with_hierarchy(
     rt: &impl Abort,
     alloc: Global,
@@ -260,13 +253,7 @@ fn cells_without_weight(rt: HostRuntime) {
     for settings in [
         flat(Mode::M2k, Shape::Qpsk, Rate::R1of2),
         flat(Mode::M8k, Shape::Qam64, Rate::R2of3),
-        hierarchical(
-            Mode::M2k,
-            Shape::Qam16,
-            Hierarchy::Alpha4,
-            Rate::R5of6,
-            Rate::R3of4,
-        ),
+        two_streams(Shape::Qam16, Hierarchy::Alpha4, (Rate::R5of6, Rate::R3of4)),
     ] {
         for (hp, lp) in &weightless(&rt, rt.alloc(), &settings) {
             assert!(&rt; cost_nothing(hp) && cost_nothing(lp));
@@ -362,13 +349,7 @@ fn drawn_symbols(rt: &impl Abort, alloc: Global, mode: Mode) -> Vec<Vec<u8>> {
 fn costs_of_changing_parameters(rt: HostRuntime) -> Result<(), Fail> {
     let alloc = rt.alloc();
     let one = flat(Mode::M2k, Shape::Qpsk, Rate::R1of2);
-    let two = hierarchical(
-        Mode::M2k,
-        Shape::Qam64,
-        Hierarchy::Alpha4,
-        Rate::R2of3,
-        Rate::R3of4,
-    );
+    let two = two_streams(Shape::Qam64, Hierarchy::Alpha4, (Rate::R2of3, Rate::R3of4));
     let symbols = drawn_symbols(&rt, alloc, Mode::M2k);
     let mut rx = InnerRx::<Mode2k>::new(alloc, &one)?;
     let first = costs_by(&rt, alloc, &two, &mut rx, &symbols, 7);
@@ -446,13 +427,7 @@ fn agree_on<M: Carriers>(
 fn both_streams_at_once(rt: HostRuntime) -> Result<(), Fail> {
     let alloc = rt.alloc();
     let one = flat(Mode::M2k, Shape::Qam64, Rate::R5of6);
-    let two = hierarchical(
-        Mode::M2k,
-        Shape::Qam64,
-        Hierarchy::Alpha2,
-        Rate::R2of3,
-        Rate::R7of8,
-    );
+    let two = two_streams(Shape::Qam64, Hierarchy::Alpha2, (Rate::R2of3, Rate::R7of8));
     let mut rx = InnerRx::<Mode2k>::new(alloc, &one)?;
     for (l, bytes) in drawn_symbols(&rt, alloc, Mode::M2k).iter().enumerate() {
         let l = (l % 68) as u8;

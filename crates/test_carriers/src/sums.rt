@@ -3,24 +3,13 @@ ghost use Rattle.std.specs.Prelude.{◌≡◌, ℕ, ◌<◌, ◌^◌, get_or};
 ghost use Rattle.mode_set.specs.StreamTable.{label_bits};
 ghost use Rattle.mode_set.specs.declared.modes.Mode.TheVariants.{M2k};
 
+use crate::parameters::CONSTELLATIONS;
 use measure_sums::{plain, sum_symbol};
 use mode_set::{Hierarchy, Mode, Rate, Settings, Shape};
 use qam_map::{Cell, map};
 use std::process::Abort;
 use std::rt::HostRuntime;
 use test_tools::{flat, hierarchical, next_number};
-
-const CASES: [(Shape, Hierarchy); 9] = [
-    (Shape::Qpsk, Hierarchy::Flat),
-    (Shape::Qam16, Hierarchy::Flat),
-    (Shape::Qam16, Hierarchy::Alpha1),
-    (Shape::Qam16, Hierarchy::Alpha2),
-    (Shape::Qam16, Hierarchy::Alpha4),
-    (Shape::Qam64, Hierarchy::Flat),
-    (Shape::Qam64, Hierarchy::Alpha1),
-    (Shape::Qam64, Hierarchy::Alpha2),
-    (Shape::Qam64, Hierarchy::Alpha4),
-];
 
 // Settings with this constellation.
 fn settings(shape: Shape, hierarchy: Hierarchy) -> Settings
@@ -109,7 +98,7 @@ fn labels_are_summed_alike(rt: &impl Abort, settings: &Settings, state: &mut u32
 #[test]
 fn sums_by_both_bodies(rt: HostRuntime) {
     let mut state = 30;
-    for (shape, hierarchy) in CASES {
+    for (shape, hierarchy) in CONSTELLATIONS {
         labels_are_summed_alike(&rt, &settings(shape, hierarchy), &mut state);
     }
 }

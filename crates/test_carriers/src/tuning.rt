@@ -3,6 +3,7 @@
 ghost use Rattle.std.specs.Prelude.{◌≡◌, length};
 ghost use Rattle.mode_set.specs.declared.modes.Mode.TheVariants.{M2k};
 
+use crate::parameters::two_streams;
 use frame_build::{SymbolIn, SymbolOut};
 use mode_set::{
     Carriers, Entry, Guard, Hierarchy, Mode, Mode2k, Mode8k, Plan, Rate, Settings, Shape, Start,
@@ -197,13 +198,8 @@ fn next_super_frame(rt: HostRuntime) {
 #[test]
 fn next_parameters_are_announced(rt: HostRuntime) {
     let settings = base();
-    let next = hierarchical(
-        Mode::M2k,
-        Shape::Qam16,
-        Hierarchy::Alpha4,
-        Rate::R1of2,
-        Rate::R3of4,
-    );
+    let rates = (Rate::R1of2, Rate::R3of4);
+    let next = two_streams(Shape::Qam16, Hierarchy::Alpha4, rates);
     let (_, found) = tuned::<Mode2k>(&rt, rt.alloc(), &settings, &next.top(), 0, 68, &[]);
     let announced = found.map(|found| {
         let word = found.word;

@@ -5,7 +5,7 @@ use crate::decoding::{
     Outcome, by_steps, by_symbols, decoded, defined, long_stream, pairs_of, unmerged,
 };
 use acs_lanes::LaneAcs;
-use acs_plain::{Acs, PlainAcs};
+use acs_plain::PlainAcs;
 use code_paths::CostPair;
 use inner_decoder::StartState;
 use std::alloc::{AllocError, Global};
@@ -13,21 +13,6 @@ use std::process::Abort;
 use std::rt::HostRuntime;
 use std::test::Fail;
 use survivor_ring::{ListSurvivors, RingSurvivors, Survivors};
-
-/// Whether a decoder gives this for a list of costs.
-fn makes<A: Acs, V: Survivors<L>, const L: usize>(
-    alloc: Global,
-    start: StartState,
-    costs: &[CostPair],
-    want: &str,
-) -> Result<bool, AllocError>
-    requires some { 0 < L }
-    requires few { L ≤ 2048 }
-    requires short { length costs.now ≤ 1000 }
-{
-    let text = decoded::<A, V, L>(alloc, start, costs)?;
-    Ok(text.as_str() == want)
-}
 
 /// Whether all four decoders give this for a list of costs.
 fn all_make<const L: usize>(
@@ -40,11 +25,12 @@ fn all_make<const L: usize>(
     requires few { L ≤ 2048 }
     requires short { length costs.now ≤ 1000 }
 {
-    let plain = makes::<PlainAcs, ListSurvivors<L>, L>(alloc, start, costs, want)?;
-    let ring = makes::<PlainAcs, RingSurvivors<L>, L>(alloc, start, costs, want)?;
-    let lanes = makes::<LaneAcs, ListSurvivors<L>, L>(alloc, start, costs, want)?;
-    let both = makes::<LaneAcs, RingSurvivors<L>, L>(alloc, start, costs, want)?;
-    Ok(plain && ring && lanes && both)
+    let plain = decoded::<PlainAcs, ListSurvivors<L>, L>(alloc, start, costs)?;
+    let ring = decoded::<PlainAcs, RingSurvivors<L>, L>(alloc, start, costs)?;
+    let lanes = decoded::<LaneAcs, ListSurvivors<L>, L>(alloc, start, costs)?;
+    let both = decoded::<LaneAcs, RingSurvivors<L>, L>(alloc, start, costs)?;
+    let texts = [plain.as_str(), ring.as_str(), lanes.as_str(), both.as_str()];
+    Ok(texts == [want; 4])
 }
 
 /// Whether all four decoders with a path memory of `most` steps give this for a list of costs.

@@ -314,13 +314,36 @@ pub fn by_steps<A: Acs, V: Survivors<2048>>(
     })
 }
 
-/// Takes the whole pending bytes, at most 1,000, and adds them to a sum of bytes.
+/// A sum of bytes with more of them.
+fn sum_onto(before: u64, bytes: &[u8]) -> u64 {
+    let mut sum = before;
+    for byte in bytes {
+        sum = sum.wrapping_mul(31).wrapping_add(*byte as u64);
+    }
+    sum
+}
+
+/// Takes seven pending bytes at once, if there are as many, and adds them to a sum of bytes.
+fn seven_taken<A: Acs, V: Survivors<2048>>(branch: &mut Branch<A, V>, before: u64) -> u64
+    ensures decoder { branch.new.decoder ≡ branch.old.decoder }
+    ensures loaded { branch.new.loaded ≡ branch.old.loaded }
+    ensures most { branch.new.most ≡ branch.old.most }
+{
+    if branch.waiting() < 56 {
+        return before;
+    }
+    let mut bytes = [0u8; 7];
+    branch.take_bytes(&mut bytes);
+    sum_onto(before, &bytes)
+}
+
+/// Takes the whole pending bytes, the first seven at once and at most 1,000 others, and adds them to a sum of bytes.
 fn bytes_taken<A: Acs, V: Survivors<2048>>(branch: &mut Branch<A, V>, before: u64) -> u64
     ensures decoder { branch.new.decoder ≡ branch.old.decoder }
     ensures loaded { branch.new.loaded ≡ branch.old.loaded }
     ensures most { branch.new.most ≡ branch.old.most }
 {
-    let mut sum = before;
+    let mut sum = seven_taken(branch, before);
     for _k in 0..1000u32 {
         if let Some(byte) = branch.take_byte() {
             sum = sum.wrapping_mul(31).wrapping_add(byte as u64);

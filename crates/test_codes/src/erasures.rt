@@ -7,7 +7,7 @@ ghost use Rattle.std.specs.List.Sorted.{IsStrictlyIncreasing};
 use crate::words::product_of;
 use rs_erasure::{Erased, decode_erased, laws};
 use rs204::encode;
-use test_tools::next_number;
+use test_tools::{checksum, next_number};
 
 // Whether positions are valid erasures.
 fn may_be_erased(places: &[u8; 8]) -> bool
@@ -161,19 +161,11 @@ fn other(others: &[Other], case: u32) -> Option<(u8, u32)> {
     None
 }
 
-fn sum_of(word: &[u8; 204]) -> u32 {
-    let mut sum = 0u32;
-    for byte in word {
-        sum = sum.wrapping_mul(31).wrapping_add(*byte as u32);
-    }
-    sum
-}
-
 // Whether no codeword is found for this word except that of the other program.
 fn finds_as_others(received: &[u8; 204], places: &[u8; 8], others: &[Other], case: u32) -> bool {
     if let Some((count, sum)) = other(others, case) {
         let mut word = *received;
-        return decoded(&mut word, places) == Some(Erased::Found(count)) && sum_of(&word) == sum;
+        return decoded(&mut word, places) == Some(Erased::Found(count)) && checksum(&word) == sum;
     }
     finds(received, places, Erased::NoWord, received)
 }

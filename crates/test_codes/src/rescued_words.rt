@@ -1,26 +1,12 @@
 // The outer code for disturbed bytes with their margins.
 use load_gen::Load;
-use outer_chain::OuterTx;
 use rescue_words::{MarginRx, RescueCounts, RescueWords};
 use std::alloc::{AllocError, Global};
 use std::test::Fail;
+use test_tools::{checksum, interleaved};
 
 /// More words than any test has.
 const MANY: u64 = 1_000_000;
-
-// Random packets from this number, and their interleaved bytes.
-fn sent(alloc: Global, number: u32, count: usize) -> Result<(Vec<u8>, Vec<u8>), AllocError> {
-    let mut load = Load::start(number);
-    let mut tx = OuterTx::new(alloc)?;
-    let mut packets = Vec::new(alloc);
-    let mut bytes = Vec::new(alloc);
-    for _ in 0..count {
-        let packet = load.packet();
-        packets.extend_from_slice(packet.bytes().as_slice())?;
-        bytes.extend_from_slice(tx.take(&packet).as_slice())?;
-    }
-    Ok((packets, bytes))
-}
 
 // Takes a byte with its margin, and appends the packet that ends with it.
 fn take(
@@ -95,7 +81,7 @@ fn grown(old: RescueCounts, new: RescueCounts) -> [u64; 4] {
 #[test]
 fn inverted_run_word_by_word(rt: HostRuntime) -> Result<(), Fail> {
     let alloc = rt.alloc();
-    let (packets, bytes) = sent(alloc, 19, 40)?;
+    let (packets, bytes) = interleaved(alloc, 19, 40)?;
     let mut rx = RescueWords::new(alloc)?;
     let mut word = 0usize;
     for (place, byte) in bytes.iter().enumerate() {
@@ -153,7 +139,7 @@ fn margins_of_whole_words(rt: HostRuntime) -> Result<(), Fail> {
 #[test]
 fn inverted_run_of_144(rt: HostRuntime) -> Result<(), Fail> {
     let alloc = rt.alloc();
-    let (packets, mut bytes) = sent(alloc, 19, 40)?;
+    let (packets, mut bytes) = interleaved(alloc, 19, 40)?;
     let mut margins = Vec::new(alloc);
     for (place, byte) in bytes.iter_mut().enumerate() {
         if is_inverted(place) {
@@ -203,15 +189,6 @@ fn disturbed(
     Ok(margins)
 }
 
-// A hash of the bytes.
-fn sum_of(bytes: &[u8]) -> u32 {
-    let mut sum = 0u32;
-    for byte in bytes {
-        sum = sum.wrapping_mul(31).wrapping_add(*byte as u32);
-    }
-    sum
-}
-
 // Sixty packets with random errors: counts and packets are those of an independent program by the definitions, over
 // index formulas and whole lists.
 #[test]
@@ -224,7 +201,7 @@ fn drawn_errors(rt: HostRuntime) -> Result<(), Fail> {
         (4, -880, [49, 0, 8, 16, 25, 8], 804_139_997),
     ];
     for (number, limit, kinds, sum) in cases {
-        let (_, mut bytes) = sent(alloc, number, 60)?;
+        let (_, mut bytes) = interleaved(alloc, number, 60)?;
         let margins = disturbed(alloc, number.wrapping_add(1000), limit, &mut bytes)?;
         let (found, counts) = rescued(alloc, &bytes, &margins)?;
         let have = [
@@ -236,7 +213,7 @@ fn drawn_errors(rt: HostRuntime) -> Result<(), Fail> {
             counts.unphased,
         ];
         assert!(rt; have == kinds, "limit {limit}");
-        assert!(rt; sum_of(&found) == sum, "limit {limit}");
+        assert!(rt; checksum(&found) == sum, "limit {limit}");
     }
     Ok(())
 }

@@ -1,4 +1,5 @@
 // The outer code of a stream, against outside values.
+ghost use Rattle.std.specs.Prelude.{◌+◌, ◌%◌, ◌<◌, ◌≤◌};
 
 use crate::words::NEAR_NONE;
 use dispersal::Dispersal;
@@ -195,5 +196,66 @@ fn bytes_put_as_taken(rt: HostRuntime) -> Result<(), Fail> {
         assert!(rt; is_deinterleaved(&mut lines, &mut word, place, byte, slots.as_slice()));
     }
     assert_eq!(rt; words, 5);
+    Ok(())
+}
+
+// How many of the next bytes to put at once: at most `most`, and none behind the end of their word.
+fn run_of(rx: &OuterRx, left: usize, most: usize) -> usize
+    requires left { 0 < left }
+    requires most { 0 < most }
+    ensures some { 0 < result }
+    ensures few { result ≤ left }
+    ensures within { rx.now.next % 204 + result ≤ 204 }
+{
+    rx.to_end().min(left).min(most)
+}
+
+// Puts bytes in runs of at most `most`, as long as there is room for a word.
+fn put_in_runs(rx: &mut OuterRx, bytes: &[u8], most: usize, slots: &mut Vec<WordSlot>) {
+    let mut taken = 0;
+    while taken < bytes.len() {
+        let number = run_of(rx, bytes.len() - taken, most.max(1));
+        if slots.len() < slots.capacity() {
+            rx.put_bytes(&bytes[taken..taken + number], slots);
+        }
+        taken += number;
+    }
+}
+
+// Puts bytes one by one, as long as there is room for a word.
+fn put_each(rx: &mut OuterRx, bytes: &[u8], slots: &mut Vec<WordSlot>) {
+    for byte in bytes {
+        if slots.len() < slots.capacity() {
+            rx.put_byte(*byte, slots);
+        }
+    }
+}
+
+// Whether the slots hold the same words.
+fn same_words(some: &[WordSlot], others: &[WordSlot]) -> bool {
+    some.len() == others.len()
+        && some
+            .iter()
+            .zip(others)
+            .all(|(a, b)| a.word == b.word && a.outcome == b.outcome)
+}
+
+// Bytes put at once give the same words as bytes put one by one, five of these sixteen.
+#[test]
+fn bytes_put_at_once(rt: HostRuntime) -> Result<(), Fail> {
+    let mut bytes = vec![in rt.alloc(); 0u8; 3300]?;
+    for (place, byte) in bytes.iter_mut().enumerate() {
+        *byte = (place % 251) as u8;
+    }
+    let mut one = OuterRx::new(rt.alloc())?;
+    let mut expected = Vec::with_capacity(rt.alloc(), 6)?;
+    put_each(&mut one, &bytes, &mut expected);
+    assert_eq!(rt; expected.len(), 5);
+    for most in [1usize, 7, 203, 204] {
+        let mut rx = OuterRx::new(rt.alloc())?;
+        let mut slots = Vec::with_capacity(rt.alloc(), 6)?;
+        put_in_runs(&mut rx, &bytes, most, &mut slots);
+        assert!(rt; same_words(&slots, &expected));
+    }
     Ok(())
 }

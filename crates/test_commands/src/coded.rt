@@ -107,28 +107,11 @@ static BEGINS: [Part; 1] = [(0, &[0xB8, 0, 0, 0, 0, 0, 0, 0, 0, 0, 0, 0, 0x8C])]
 const FORM: &str = "outer a out";
 
 /// A sample, a packet without its sync byte, and a packet past the limit.
+#[rattlefmt::skip]
 static CASES: [Case; 3] = [
-    (
-        FORM,
-        (BASE, ""),
-        File::Counted(100, 0),
-        FREE,
-        (0, "hp packets 100 tail 0\n", 20_400, 499_727_075),
-    ),
-    (
-        FORM,
-        (BASE, ""),
-        File::Unsynced(1, 1),
-        FREE,
-        (4, "hp packet 1\n", 204, 2_722_950_962),
-    ),
-    (
-        FORM,
-        (BASE, ""),
-        File::Nulls(3, 0),
-        (None, 2, u32::MAX),
-        (8, "limit 2\n", 408, 151_037_055),
-    ),
+    (FORM, (BASE, ""), File::Counted(100, 0), FREE, (0, "hp packets 100 tail 0\n", 20_400, 499_727_075)),
+    (FORM, (BASE, ""), File::Unsynced(1, 1), FREE, (4, "hp packet 1\n", 204, 2_722_950_962)),
+    (FORM, (BASE, ""), File::Nulls(3, 0), (None, 2, u32::MAX), (8, "limit 2\n", 408, 151_037_055)),
 ];
 
 #[test]

@@ -3,7 +3,7 @@ ghost use Rattle.std.specs.Prelude.{◌≡◌};
 
 use crate::cells::{HEADER, SYMBOL, number_at, put_number};
 use load_gen::Load;
-use mode_set::{Guard, Hierarchy, Mode, Mode2k, Plan, Rate, Settings, Shape, Start};
+use mode_set::{Mode, Mode2k, Rate, Settings, Shape};
 use modulator::{Modulator, Want};
 use pilots::CarrierKind::Payload;
 use pilots::kind;
@@ -12,6 +12,7 @@ use std::process::Abort;
 use std::test::Fail;
 use std::thread::Threads;
 use test_runs::{BASE, Ran, ample, run_files, text_bytes};
+use test_tools::flat;
 use ts_packet::Packet;
 
 /// The most by which a data cell of QPSK is moved on each axis.
@@ -21,19 +22,7 @@ const TOLERANCE: u16 = 5792;
 fn base() -> Settings
     ensures { result.mode ≡ Mode.M2k }
 {
-    Settings {
-        mode: Mode::M2k,
-        shape: Shape::Qpsk,
-        hierarchy: Hierarchy::Flat,
-        rate_hp: Rate::R1of2,
-        rate_lp: None,
-        guard: Guard::G1of32,
-        cell_id: None,
-        start: Start::Zero,
-        workers: 1,
-        max_symbols: 1000000,
-        plan: Plan::none(),
-    }
+    flat(Mode::M2k, Shape::Qpsk, Rate::R1of2)
 }
 
 // The next packet: a random one while any is left, then a null packet.

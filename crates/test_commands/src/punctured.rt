@@ -32,42 +32,13 @@ const SAMPLE: File = File::Counted(100, 0);
 
 const TOLD: &str = "hp packets 100 tail 0\n";
 
+#[rattlefmt::skip]
 static SAMPLES: [Case; 5] = [
-    (
-        FORM,
-        (BASE, ""),
-        SAMPLE,
-        FREE,
-        (0, TOLD, 40_800, 615_776_147),
-    ),
-    (
-        FORM,
-        (TWO_THIRDS, ""),
-        SAMPLE,
-        FREE,
-        (0, TOLD, 30_600, 1_202_359_747),
-    ),
-    (
-        FORM,
-        (THREE_QUARTERS, ""),
-        SAMPLE,
-        FREE,
-        (0, TOLD, 27_200, 636_703_022),
-    ),
-    (
-        FORM,
-        (FIVE_OF_SIX, ""),
-        SAMPLE,
-        FREE,
-        (0, TOLD, 24_480, 3_195_147_055),
-    ),
-    (
-        FORM,
-        (SEVEN_OF_EIGHT, ""),
-        SAMPLE,
-        FREE,
-        (0, TOLD, 23_315, 1_587_361_302),
-    ),
+    (FORM, (BASE, ""), SAMPLE, FREE, (0, TOLD, 40_800, 615_776_147)),
+    (FORM, (TWO_THIRDS, ""), SAMPLE, FREE, (0, TOLD, 30_600, 1_202_359_747)),
+    (FORM, (THREE_QUARTERS, ""), SAMPLE, FREE, (0, TOLD, 27_200, 636_703_022)),
+    (FORM, (FIVE_OF_SIX, ""), SAMPLE, FREE, (0, TOLD, 24_480, 3_195_147_055)),
+    (FORM, (SEVEN_OF_EIGHT, ""), SAMPLE, FREE, (0, TOLD, 23_315, 1_587_361_302)),
 ];
 
 #[test]
@@ -92,70 +63,17 @@ const GONE: &str = "inner s gone out";
 /// No packet.
 const NONE: File = File::Nulls(0, 0);
 
+#[rattlefmt::skip]
 static REFUSED: [Case; 9] = [
-    (
-        GONE,
-        (BASE, "hierarchy = \"2\"\n"),
-        NONE,
-        FREE,
-        (3, "settings clash hierarchy\n", 0, 0),
-    ),
-    (
-        GONE,
-        (BASE, "colour = \"red\"\n"),
-        NONE,
-        FREE,
-        (3, "settings unknown 0\n", 0, 0),
-    ),
-    (
-        GONE,
-        (BASE, "workers = 0\n"),
-        NONE,
-        FREE,
-        (3, "settings value workers\n", 0, 0),
-    ),
-    (
-        GONE,
-        (BASE, TWICE),
-        NONE,
-        FREE,
-        (3, "settings value plan\n", 0, 0),
-    ),
-    (
-        GONE,
-        (BASE, CLASH),
-        NONE,
-        FREE,
-        (3, "settings value plan\n", 0, 0),
-    ),
-    (
-        GONE,
-        (BASE, "rate_lp = \"1/2\"\n"),
-        NONE,
-        FREE,
-        (3, "settings clash rate_lp\n", 0, 0),
-    ),
-    (
-        GONE,
-        (NO_GUARD, ""),
-        NONE,
-        FREE,
-        (3, "settings missing guard\n", 0, 0),
-    ),
-    (
-        GONE,
-        ("mode =", ""),
-        NONE,
-        FREE,
-        (3, "settings not toml\n", 0, 0),
-    ),
-    (
-        GONE,
-        ("mode = \"2k\"\n", "mode = \"2k\"\n"),
-        NONE,
-        FREE,
-        (3, "settings not toml\n", 0, 0),
-    ),
+    (GONE, (BASE, "hierarchy = \"2\"\n"), NONE, FREE, (3, "settings clash hierarchy\n", 0, 0)),
+    (GONE, (BASE, "colour = \"red\"\n"), NONE, FREE, (3, "settings unknown 0\n", 0, 0)),
+    (GONE, (BASE, "workers = 0\n"), NONE, FREE, (3, "settings value workers\n", 0, 0)),
+    (GONE, (BASE, TWICE), NONE, FREE, (3, "settings value plan\n", 0, 0)),
+    (GONE, (BASE, CLASH), NONE, FREE, (3, "settings value plan\n", 0, 0)),
+    (GONE, (BASE, "rate_lp = \"1/2\"\n"), NONE, FREE, (3, "settings clash rate_lp\n", 0, 0)),
+    (GONE, (NO_GUARD, ""), NONE, FREE, (3, "settings missing guard\n", 0, 0)),
+    (GONE, ("mode =", ""), NONE, FREE, (3, "settings not toml\n", 0, 0)),
+    (GONE, ("mode = \"2k\"\n", "mode = \"2k\"\n"), NONE, FREE, (3, "settings not toml\n", 0, 0)),
 ];
 
 // Runs the command with this number of spaces for settings, and returns whether it is rejected with this text.
@@ -181,37 +99,14 @@ fn refused_settings(rt: HostRuntime) -> Result<(), Fail> {
 
 const FAULT: (u8, &str, usize, u32) = (5, "read fault\n", 0, 0);
 
+#[rattlefmt::skip]
 static FAULTS: [Case; 8] = [
-    (
-        FORM,
-        (FIVE_OF_SIX, ""),
-        NULL,
-        FREE,
-        (0, "hp packets 1 tail 0\n", 245, 3_124_305_410),
-    ),
+    (FORM, (FIVE_OF_SIX, ""), NULL, FREE, (0, "hp packets 1 tail 0\n", 245, 3_124_305_410)),
     ("inner gone a out", (FIVE_OF_SIX, ""), NULL, FREE, FAULT),
     ("inner s gone out", (FIVE_OF_SIX, ""), NULL, FREE, FAULT),
-    (
-        FORM,
-        (FIVE_OF_SIX, ""),
-        NULL,
-        (Some(Failing::Attach(InPort::Settings, 1)), 100, u32::MAX),
-        FAULT,
-    ),
-    (
-        FORM,
-        (FIVE_OF_SIX, ""),
-        NULL,
-        (Some(Failing::Read(InPort::Settings, 2)), 100, u32::MAX),
-        FAULT,
-    ),
-    (
-        FORM,
-        (FIVE_OF_SIX, ""),
-        File::Unsynced(1, 0),
-        FREE,
-        (4, "hp packet 1\n", 244, 654_973_374),
-    ),
+    (FORM, (FIVE_OF_SIX, ""), NULL, (Some(Failing::Attach(InPort::Settings, 1)), 100, u32::MAX), FAULT),
+    (FORM, (FIVE_OF_SIX, ""), NULL, (Some(Failing::Read(InPort::Settings, 2)), 100, u32::MAX), FAULT),
+    (FORM, (FIVE_OF_SIX, ""), File::Unsynced(1, 0), FREE, (4, "hp packet 1\n", 244, 654_973_374)),
     (
         FORM,
         (FIVE_OF_SIX, ""),
@@ -219,13 +114,7 @@ static FAULTS: [Case; 8] = [
         (Some(Failing::Read(InPort::Hp, 2)), 100, u32::MAX),
         (5, "read fault\n", 244, 654_973_374),
     ),
-    (
-        FORM,
-        (SEVEN_OF_EIGHT, ""),
-        File::Nulls(2, 0),
-        (None, 1, 100),
-        (8, "limit 1\n", 233, 612_474_215),
-    ),
+    (FORM, (SEVEN_OF_EIGHT, ""), File::Nulls(2, 0), (None, 1, 100), (8, "limit 1\n", 233, 612_474_215)),
 ];
 
 // Missing files, failed calls, rejected packets, and the limit: a partial byte is written only at status 0.

@@ -10,7 +10,7 @@ use std::process::Abort;
 use std::test::Fail;
 use std::thread::Threads;
 use test_runs::{
-    BASE, Conditions, File, LAYERED, Made, UNMADE, WHOLE_NULLS, ample, checksum, run_files,
+    BASE, Conditions, File, LAYERED, Made, UNMADE, WHOLE_NULLS, WIDE, ample, checksum, run_files,
     text_bytes,
 };
 
@@ -40,10 +40,6 @@ const WITHIN_A_CELL: &str =
 
 const BEFORE_A_WEIGHT: &str =
     "symbols 0 tail 8524\ntps read 0 bad 0\nhp words 0 clean 0 corrected 0 bad 0 unphased 0 unmerged 0\n";
-
-/// QPSK at 1/2 in the 8K mode.
-const EIGHT: &str =
-    "mode = \"8k\"\nconstellation = \"qpsk\"\nrate_hp = \"1/2\"\nguard = \"1/32\"\n";
 
 // The expected result: the status, the report, and the number of bytes of null packets at HP, if it was created. No
 // other output is created.
@@ -169,19 +165,19 @@ fn is_found<R: Abort + Threads + Sync>(
 }
 
 /// A read returns all that it asks for.
-const WIDE: u32 = u32::MAX;
+const FULL_READS: u32 = u32::MAX;
 
 const LIMIT: &str = "max_symbols = 272\n";
 
 /// The null super-frame: whole, one byte for each read, within the limit of symbols and past it. A line of the
 /// settings, the cells, and the expected result.
 static WHOLE: [(&str, (Cells, u32), Found); 4] = [
-    ("", (Cells::Whole, WIDE), NULLS),
+    ("", (Cells::Whole, FULL_READS), NULLS),
     ("", (Cells::Whole, 1), NULLS),
-    (LIMIT, (Cells::Whole, WIDE), NULLS),
+    (LIMIT, (Cells::Whole, FULL_READS), NULLS),
     (
         LIMIT,
-        (Cells::OneMore, WIDE),
+        (Cells::OneMore, FULL_READS),
         (8, "limit 272\n", Some(45_120)),
     ),
 ];
@@ -200,12 +196,12 @@ fn null_super_frame(rt: HostRuntime) -> Result<(), Fail> {
 /// The header, a symbol and a byte of it, and the header alone. Cut within a cell or before its weight, a symbol does
 /// not count.
 static PARTS: [((Cells, u32), &str); 6] = [
-    ((Cells::Front(8 + SYMBOL + 1), WIDE), PART),
+    ((Cells::Front(8 + SYMBOL + 1), FULL_READS), PART),
     ((Cells::Front(8 + SYMBOL + 1), 1), PART),
-    ((Cells::Front(8), WIDE), EMPTY),
+    ((Cells::Front(8), FULL_READS), EMPTY),
     ((Cells::Front(8), 1), EMPTY),
-    ((Cells::Front(8 + SYMBOL - 2), WIDE), WITHIN_A_CELL),
-    ((Cells::Front(8 + SYMBOL - 1), WIDE), BEFORE_A_WEIGHT),
+    ((Cells::Front(8 + SYMBOL - 2), FULL_READS), WITHIN_A_CELL),
+    ((Cells::Front(8 + SYMBOL - 1), FULL_READS), BEFORE_A_WEIGHT),
 ];
 
 #[test]
@@ -269,13 +265,13 @@ fn faults_of_the_station(rt: HostRuntime) -> Result<(), Fail> {
 /// without a header, a file of version 1, one whose header has another version, and one of the other mode. The
 /// settings, and the cells.
 static HEADERS: [(&str, (Cells, u32)); 7] = [
-    (BASE, (Cells::Front(0), WIDE)),
-    (BASE, (Cells::Front(7), WIDE)),
+    (BASE, (Cells::Front(0), FULL_READS)),
+    (BASE, (Cells::Front(7), FULL_READS)),
     (BASE, (Cells::Front(7), 1)),
-    (BASE, (Cells::Headless, WIDE)),
-    (BASE, (Cells::Old, WIDE)),
-    (BASE, (Cells::OtherVersion, WIDE)),
-    (EIGHT, (Cells::Whole, WIDE)),
+    (BASE, (Cells::Headless, FULL_READS)),
+    (BASE, (Cells::Old, FULL_READS)),
+    (BASE, (Cells::OtherVersion, FULL_READS)),
+    (WIDE, (Cells::Whole, FULL_READS)),
 ];
 
 #[test]

@@ -4,7 +4,7 @@ use std::alloc::{AllocError, Global};
 use std::process::Abort;
 use std::test::Fail;
 use std::thread::Threads;
-use test_runs::{BASE, Conditions, LAYERED, UNMADE, ample, run_files, text_bytes};
+use test_runs::{BASE, Conditions, LAYERED, UNMADE, WIDE, ample, run_files, text_bytes};
 
 // Runs these arguments with these settings, and compares the status and the report. No output is created.
 fn expect<R: Abort + Threads + Sync>(
@@ -100,13 +100,9 @@ fn two_streams_and_a_failed_write(rt: HostRuntime) -> Result<(), Fail> {
     Ok(())
 }
 
-/// QPSK at 1/2 in the 8K mode.
-const EIGHT: &str =
-    "mode = \"8k\"\nconstellation = \"qpsk\"\nrate_hp = \"1/2\"\nguard = \"1/32\"\n";
-
 #[test]
 fn one_stream_of_the_8k_mode(rt: HostRuntime) -> Result<(), Fail> {
     let lines = "cells 914590089\nhp packets 150 back 997 sum 41380676\n";
-    expect(&rt, rt.alloc(), "trial s 7", (EIGHT, ""), None, (0, lines))?;
+    expect(&rt, rt.alloc(), "trial s 7", (WIDE, ""), None, (0, lines))?;
     Ok(())
 }

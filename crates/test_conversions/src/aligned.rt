@@ -1,12 +1,15 @@
-// Places found. The expected reports, lengths and sums are those of an independent program.
-use crate::align_running::{ALIGN, Found, HEADER, HEADER_SUM, aligned, heard, stands};
+// Places found by `align`. The expected reports, lengths and sums are those of an independent program.
+use crate::conversions::{Found, HEADER, HEADER_SUM, Row, rows_stand, stands};
 use std::alloc::{AllocError, Global};
+use std::process::Abort;
 use std::test::Fail;
 use std::thread::Threads;
 use test_runs::{
-    BASE, Conditions, File, LAYERED, SUPER_FRAME, SYMBOL, ample, null_cells, run_files, text_bytes,
-    wide_null_cells,
+    BASE, Conditions, LAYERED, SUPER_FRAME, SYMBOL, WIDE, WIDE_SYMBOL, ample, heard, null_cells,
+    run_on_cells, sent, wide_null_cells,
 };
+
+pub(crate) const ALIGN: &str = "align s a cells";
 
 /// The lines of the second of two super-frames, received from symbol 10 of the first one on.
 const SECOND: &str =
@@ -20,35 +23,20 @@ const PLANNED: &str =
 const LP_COMES: &str =
     "plan = [{ after = 1, constellation = \"16qam\", hierarchy = \"4\", rate_hp = \"1/2\", rate_lp = \"3/4\" }]\n";
 
-/// QPSK at 1/2 in the 8K mode.
-const WIDE: &str = "mode = \"8k\"\nconstellation = \"qpsk\"\nrate_hp = \"1/2\"\nguard = \"1/32\"\n";
-
-// The cells of two super-frames of 300 packets, and of 100 of LP if the plan has it.
-fn two_super_frames<R: Threads + Sync>(
-    rt: &R,
-    alloc: Global,
-    plan: &str,
-) -> Result<Vec<u8>, AllocError> {
-    let hp = File::Counted(300, 0).bytes(alloc)?;
-    let (words, lp) = if plan.is_empty() {
-        ("modulate s a cells", Vec::new(alloc))
-    } else {
-        ("modulate s a b cells", File::Counted(100, 0).bytes(alloc)?)
-    };
-    let settings = text_bytes(alloc, BASE, plan)?;
-    let room = ample(2 * SUPER_FRAME);
-    Ok(run_files(rt, alloc, words, settings, (hp, lp), 1000, room)?.cells)
+// The cells of two super-frames of 300 packets, without their first ten symbols.
+fn late<R: Abort + Threads + Sync>(rt: &R, alloc: Global) -> Result<Vec<u8>, AllocError> {
+    let cells = sent(rt, alloc, (BASE, ""), (300, None), 2)?;
+    heard(alloc, &cells, SYMBOL, 10, 0)
 }
 
 // The second of two super-frames is copied unchanged, with the settings of the transmission and with others.
 #[test]
 fn second_super_frame(rt: HostRuntime) -> Result<(), Fail> {
     let alloc = rt.alloc();
-    let cells = two_super_frames(&rt, alloc, "")?;
-    let file = heard(alloc, &cells, 10, 0)?;
+    let file = late(&rt, alloc)?;
     for settings in [BASE, LAYERED] {
-        let file = Vec::from_slice(alloc, &file)?;
-        let ran = aligned(&rt, alloc, (settings, ""), file, ample(SUPER_FRAME))?;
+        let room = ample(SUPER_FRAME);
+        let ran = run_on_cells(&rt, alloc, ALIGN, (settings, ""), &file, room)?;
         let found = (0, SECOND, SUPER_FRAME as usize, 3_997_570_612);
         stands(&rt, &ran, found);
     }
@@ -59,57 +47,35 @@ fn second_super_frame(rt: HostRuntime) -> Result<(), Fail> {
 #[test]
 fn announced_plan(rt: HostRuntime) -> Result<(), Fail> {
     let alloc = rt.alloc();
-    let file = two_super_frames(&rt, alloc, LP_COMES)?;
-    let ran = aligned(&rt, alloc, (BASE, ""), file, ample(SUPER_FRAME))?;
+    let file = sent(&rt, alloc, (BASE, LP_COMES), (300, Some(100)), 2)?;
+    let room = ample(SUPER_FRAME);
+    let ran = run_on_cells(&rt, alloc, ALIGN, (BASE, ""), &file, room)?;
     stands(&rt, &ran, (0, PLANNED, SUPER_FRAME as usize, 19_705_062));
     Ok(())
 }
 
-/// The number of symbols and bytes of that file, and the expected result.
-static CUTS: [(usize, usize, Found<'static>); 3] = [
-    (
-        261,
-        8_524,
-        (
-            0,
-            "tune at 58 frame 2\nannounced constellation qpsk hierarchy none rate_hp 1/2 guard 1/32\nsymbols 0 tail 0\n",
-            HEADER,
-            HEADER_SUM,
-        ),
-    ),
-    (
-        262,
-        4,
-        (
-            0,
-            "tune at 58 frame 2\nannounced constellation qpsk hierarchy none rate_hp 1/2 guard 1/32\nsymbols 0 tail 4\n",
-            HEADER,
-            HEADER_SUM,
-        ),
-    ),
-    (
-        263,
-        1,
-        (
-            0,
-            "tune at 58 frame 2\nannounced constellation qpsk hierarchy none rate_hp 1/2 guard 1/32\nsymbols 1 tail 1\n",
-            8_533,
-            1_363_019_003,
-        ),
-    ),
+/// The closing lines of files that end around the second super-frame.
+const NO_TAIL: &str =
+    "tune at 58 frame 2\nannounced constellation qpsk hierarchy none rate_hp 1/2 guard 1/32\nsymbols 0 tail 0\n";
+
+const TAIL_OF_FOUR: &str =
+    "tune at 58 frame 2\nannounced constellation qpsk hierarchy none rate_hp 1/2 guard 1/32\nsymbols 0 tail 4\n";
+
+const TAIL_OF_ONE: &str =
+    "tune at 58 frame 2\nannounced constellation qpsk hierarchy none rate_hp 1/2 guard 1/32\nsymbols 1 tail 1\n";
+
+/// Cells that end before the next super-frame have no tail.
+#[rattlefmt::skip]
+static CUTS: [Row<'static>; 3] = [
+    (ALIGN, (BASE, ""), HEADER + 261 * SYMBOL + 8_524, (0, NO_TAIL, HEADER, HEADER_SUM)),
+    (ALIGN, (BASE, ""), HEADER + 262 * SYMBOL + 4, (0, TAIL_OF_FOUR, HEADER, HEADER_SUM)),
+    (ALIGN, (BASE, ""), HEADER + 263 * SYMBOL + 1, (0, TAIL_OF_ONE, 8_533, 1_363_019_003)),
 ];
 
-// Cells that end before the next super-frame have no tail.
 #[test]
 fn ends_around_the_super_frame(rt: HostRuntime) -> Result<(), Fail> {
-    let alloc = rt.alloc();
-    let cells = two_super_frames(&rt, alloc, "")?;
-    for (symbols, bytes, found) in &CUTS {
-        let mut file = heard(alloc, &cells, 10, 0)?;
-        file.truncate(8 + (*symbols).min(300) * SYMBOL + (*bytes).min(SYMBOL));
-        let ran = aligned(&rt, alloc, (BASE, ""), file, ample(SUPER_FRAME))?;
-        stands(&rt, &ran, *found);
-    }
+    let file = late(&rt, rt.alloc())?;
+    rows_stand(&rt, rt.alloc(), &file, ample(SUPER_FRAME), &CUTS)?;
     Ok(())
 }
 
@@ -179,8 +145,9 @@ fn every_word(rt: HostRuntime) -> Result<(), Fail> {
     let alloc = rt.alloc();
     for (sent, first, following, found) in &ANNOUNCED {
         let cells = null_cells(&rt, alloc, sent, sent.contains("rate_lp"))?;
-        let file = heard(alloc, &cells, *first, *following)?;
-        let ran = aligned(&rt, alloc, (BASE, ""), file, ample(SUPER_FRAME))?;
+        let file = heard(alloc, &cells, SYMBOL, *first, *following)?;
+        let room = ample(SUPER_FRAME);
+        let ran = run_on_cells(&rt, alloc, ALIGN, (BASE, ""), &file, room)?;
         stands(&rt, &ran, *found);
     }
     Ok(())
@@ -191,12 +158,9 @@ fn every_word(rt: HostRuntime) -> Result<(), Fail> {
 fn wide_symbols(rt: HostRuntime) -> Result<(), Fail> {
     let alloc = rt.alloc();
     let cells = wide_null_cells(&rt, alloc, WIDE)?;
-    let begin = (8 + 201 * 34_085).min(cells.len());
-    let end = (8 + 2 * 34_085).min(begin);
-    let mut file = Vec::from_slice(alloc, &cells[..8.min(end)])?;
-    file.extend_from_slice(&cells[begin..])?;
-    file.extend_from_slice(&cells[8.min(end)..end])?;
-    let ran = aligned(&rt, alloc, (WIDE, ""), file, ample(SUPER_FRAME))?;
+    let file = heard(alloc, &cells, WIDE_SYMBOL, 201, 2)?;
+    let room = ample(SUPER_FRAME);
+    let ran = run_on_cells(&rt, alloc, ALIGN, (WIDE, ""), &file, room)?;
     let report =
         "tune at 3 frame 4\nannounced constellation qpsk hierarchy none rate_hp 1/2 guard 1/32\nsymbols 2 tail 0\n";
     stands(&rt, &ran, (0, report, 68_178, 1_609_659_017));
@@ -218,7 +182,7 @@ fn weigh(file: &mut [u8]) {
 fn byte_for_byte(rt: HostRuntime) -> Result<(), Fail> {
     let alloc = rt.alloc();
     let cells = null_cells(&rt, alloc, BASE, false)?;
-    let mut file = heard(alloc, &cells, 163, 3)?;
+    let mut file = heard(alloc, &cells, SYMBOL, 163, 3)?;
     weigh(&mut file);
     let report =
         "tune at 41 frame 4\nannounced constellation qpsk hierarchy none rate_hp 1/2 guard 1/32\nsymbols 3 tail 0\n";
@@ -227,13 +191,7 @@ fn byte_for_byte(rt: HostRuntime) -> Result<(), Fail> {
             most,
             ..ample(SUPER_FRAME)
         };
-        let ran = aligned(
-            &rt,
-            alloc,
-            (BASE, ""),
-            Vec::from_slice(alloc, &file)?,
-            conditions,
-        )?;
+        let ran = run_on_cells(&rt, alloc, ALIGN, (BASE, ""), &file, conditions)?;
         stands(&rt, &ran, (0, report, 25_583, 3_253_655_487));
     }
     Ok(())
@@ -245,31 +203,11 @@ fn received_as_tuned(rt: HostRuntime) -> Result<(), Fail> {
     let alloc = rt.alloc();
     let room = ample(SUPER_FRAME);
     let cells = null_cells(&rt, alloc, BASE, false)?;
-    let file = heard(alloc, &cells, 163, 24)?;
-    let found = Vec::from_slice(alloc, &file)?;
-    let settings = text_bytes(alloc, BASE, "")?;
-    let tuned = run_files(
-        &rt,
-        alloc,
-        "tune s a hp",
-        settings,
-        (found, Vec::new(alloc)),
-        1,
-        room,
-    )?;
-    let settings = text_bytes(alloc, BASE, "")?;
-    let made = run_files(
-        &rt,
-        alloc,
-        ALIGN,
-        settings,
-        (file, Vec::new(alloc)),
-        1,
-        room,
-    )?;
-    let settings = text_bytes(alloc, BASE, "start = \"any\"\n")?;
-    let inputs = (made.cells, Vec::new(alloc));
-    let back = run_files(&rt, alloc, "receive s a hp", settings, inputs, 1, room)?;
+    let file = heard(alloc, &cells, SYMBOL, 163, 24)?;
+    let tuned = run_on_cells(&rt, alloc, "tune s a hp", (BASE, ""), &file, room)?;
+    let made = run_on_cells(&rt, alloc, ALIGN, (BASE, ""), &file, room)?;
+    let any = (BASE, "start = \"any\"\n");
+    let back = run_on_cells(&rt, alloc, "receive s a hp", any, &made.cells, room)?;
     assert_eq!(rt; (tuned.status, made.status, back.status), (0, 0, 0));
     assert!(rt; tuned.hp == back.hp && back.hp.len() == 2_068);
     Ok(())

@@ -1,16 +1,13 @@
 // The command `equalise`. The expected reports, lengths and sums are those of an independent program.
+use crate::conversions::{
+    Fault, HALF_HEADER, HALF_LINE, HEADER, HEADER_SUM, HEADLESS, READ, Row, WRITE, faults_stand,
+    rows_stand, stands,
+};
 use station_core::{Failing, InPort, OutPort};
 use std::alloc::{AllocError, Global};
-use std::process::Abort;
 use std::test::Fail;
 use std::thread::Threads;
-use test_runs::{
-    BASE, Conditions, LAYERED, Made, Ran, UNMADE, WHOLE_NULLS, ample, checksum, run_files,
-    text_bytes,
-};
-
-/// QPSK at 1/2 in the 8K mode.
-const WIDE: &str = "mode = \"8k\"\nconstellation = \"qpsk\"\nrate_hp = \"1/2\"\nguard = \"1/32\"\n";
+use test_runs::{BASE, Conditions, LAYERED, WHOLE_NULLS, WIDE, ample, null_cells, run_on_cells};
 
 /// The bytes of a cell file of a super-frame of the 2K mode, and the sum of that of null packets.
 const SUPER_FRAME: usize = 2_318_808;
@@ -21,14 +18,6 @@ const NULLS: u32 = 2_468_371_442;
 const EIGHTH: u32 = 3_635_339_598;
 
 const EQUALISE: &str = "equalise s a cells";
-
-// The expected result: the status, the report, the length of the new file, and its sum.
-type Found<'a> = (u8, &'a str, usize, u32);
-
-/// The sum of the header of the 2K mode, and of half of it.
-const HEADER: u32 = 4_029_675_199;
-
-const HALF_HEADER: u32 = 2_111_105;
 
 /// The sum of the header and of one symbol of `cell_file` corrected, and of two.
 const ONE_SYMBOL: u32 = 959_283_447;
@@ -47,36 +36,6 @@ fn cell_file(alloc: Global, mode: u8, count: u32) -> Result<Vec<u8>, AllocError>
         bytes.push((number / 16 % 256) as u8)?;
     }
     Ok(bytes)
-}
-
-// Corrects this file.
-fn equalised<R: Abort + Threads + Sync>(
-    rt: &R,
-    alloc: Global,
-    settings: (&str, &str),
-    old_cells: Vec<u8>,
-    conditions: Conditions,
-) -> Result<Ran, AllocError> {
-    assert!(rt; conditions.most >= 1);
-    let settings = text_bytes(alloc, settings.0, settings.1)?;
-    let inputs = (old_cells, Vec::new(alloc));
-    run_files(rt, alloc, EQUALISE, settings, inputs, 1, conditions)
-}
-
-// Compares the result. No table has a case of a new file created and empty.
-fn stands(rt: &impl Abort, ran: &Ran, found: Found<'_>) {
-    let is_told = ran.status == found.0 && ran.report.as_slice() == found.1.as_bytes();
-    assert!(rt; is_told, "status or report beside {}", found.1);
-    let is_held = ran.cells.len() == found.2 && checksum(&ran.cells) == found.3;
-    let made = Made {
-        cells: found.2 > 0,
-        ..UNMADE
-    };
-    assert!(rt;
-        is_held && ran.made == made,
-        "the new file beside {}",
-        found.1
-    );
 }
 
 // A part of a cell, from its two bytes.
@@ -108,15 +67,12 @@ fn turned_nulls<R: Threads + Sync>(
     alloc: Global,
     eighth: bool,
 ) -> Result<Vec<u8>, AllocError> {
-    let settings = text_bytes(alloc, BASE, "")?;
-    let none = (Vec::new(alloc), Vec::new(alloc));
-    let room = ample(SUPER_FRAME as u32);
-    let sent = run_files(rt, alloc, "modulate s a cells", settings, none, 1, room)?;
+    let sent = null_cells(rt, alloc, BASE, false)?;
     let mut bytes = Vec::new(alloc);
-    for byte in sent.cells.iter().take(8) {
+    for byte in sent.iter().take(8) {
         bytes.push(*byte)?;
     }
-    for cell in sent.cells[bytes.len().min(sent.cells.len())..].chunks_exact(5) {
+    for cell in sent[bytes.len().min(sent.len())..].chunks_exact(5) {
         let (x, y) = (part_of(cell[0], cell[1]), part_of(cell[2], cell[3]));
         let (x, y) = through(x, y, eighth);
         push_part(x, &mut bytes)?;
@@ -132,7 +88,8 @@ fn quarter_turn(rt: HostRuntime) -> Result<(), Fail> {
     let alloc = rt.alloc();
     let turned = turned_nulls(&rt, alloc, false)?;
     assert_eq!(rt; turned.len(), SUPER_FRAME);
-    let ran = equalised(&rt, alloc, (BASE, ""), turned, ample(SUPER_FRAME as u32))?;
+    let room = ample(SUPER_FRAME as u32);
+    let ran = run_on_cells(&rt, alloc, EQUALISE, (BASE, ""), &turned, room)?;
     stands(&rt, &ran, (0, "symbols 272 tail 0\n", SUPER_FRAME, NULLS));
     Ok(())
 }
@@ -143,11 +100,10 @@ fn weakened_and_received(rt: HostRuntime) -> Result<(), Fail> {
     let alloc = rt.alloc();
     let room = ample(SUPER_FRAME as u32);
     let turned = turned_nulls(&rt, alloc, true)?;
-    let ran = equalised(&rt, alloc, (BASE, ""), turned, room)?;
+    let ran = run_on_cells(&rt, alloc, EQUALISE, (BASE, ""), &turned, room)?;
     stands(&rt, &ran, (0, "symbols 272 tail 0\n", SUPER_FRAME, EIGHTH));
-    let settings = text_bytes(alloc, BASE, "")?;
-    let inputs = (ran.cells, Vec::new(alloc));
-    let back = run_files(&rt, alloc, "receive s a hp", settings, inputs, 1, room)?;
+    let receive = "receive s a hp";
+    let back = run_on_cells(&rt, alloc, receive, (BASE, ""), &ran.cells, room)?;
     assert!(rt; back.status == 0 && back.report.as_slice() == WHOLE_NULLS.as_bytes());
     Ok(())
 }
@@ -160,177 +116,138 @@ fn zero_cells(rt: HostRuntime) -> Result<(), Fail> {
     for place in 0..8525u32 {
         bytes.push(if place % 5 == 4 { 15 } else { 0 })?;
     }
-    let ran = equalised(&rt, alloc, (BASE, ""), bytes, ample(40_000))?;
+    let ran = run_on_cells(&rt, alloc, EQUALISE, (BASE, ""), &bytes, ample(40_000))?;
     stands(&rt, &ran, (0, "symbols 1 tail 0\n", 8_533, 2_233_569_185));
     Ok(())
 }
 
-/// Settings, the mode of the header, the number of bytes after it, and of the result the report, the length and the
-/// sum.
-static LENGTHS: [(&str, u8, u32, &str, usize, u32); 6] = [
-    (BASE, 0, 0, "symbols 0 tail 0\n", 8, HEADER),
-    (BASE, 0, 8_524, "symbols 0 tail 8524\n", 8, HEADER),
-    (BASE, 0, 8_525, "symbols 1 tail 0\n", 8_533, ONE_SYMBOL),
-    (LAYERED, 0, 8_526, "symbols 1 tail 1\n", 8_533, ONE_SYMBOL),
-    (BASE, 0, 25_580, "symbols 3 tail 5\n", 25_583, 1_057_960_316),
-    (WIDE, 1, 34_088, "symbols 1 tail 3\n", 34_093, 2_002_112_095),
+/// Whole symbols and parts of one in the 2K mode, with any other settings.
+#[rattlefmt::skip]
+static LENGTHS: [Row<'static>; 5] = [
+    (EQUALISE, (BASE, ""), HEADER, (0, "symbols 0 tail 0\n", HEADER, HEADER_SUM)),
+    (EQUALISE, (BASE, ""), 8_532, (0, "symbols 0 tail 8524\n", HEADER, HEADER_SUM)),
+    (EQUALISE, (BASE, ""), 8_533, (0, "symbols 1 tail 0\n", 8_533, ONE_SYMBOL)),
+    (EQUALISE, (LAYERED, ""), 8_534, (0, "symbols 1 tail 1\n", 8_533, ONE_SYMBOL)),
+    (EQUALISE, (BASE, ""), 25_588, (0, "symbols 3 tail 5\n", 25_583, 1_057_960_316)),
 ];
 
-// Whole symbols and parts of one, in both modes, with any other settings, with whole reads and single bytes: the second
-// super-frame's first symbols have the phases of the first ones.
+/// In the 8K mode.
+#[rattlefmt::skip]
+static WIDE_LENGTHS: [Row<'static>; 1] = [
+    (EQUALISE, (WIDE, ""), 34_096, (0, "symbols 1 tail 3\n", 34_093, 2_002_112_095)),
+];
+
+// With whole reads and single bytes. The second super-frame's first symbols have the phases of the first ones.
 #[test]
 fn whole_symbols_and_parts(rt: HostRuntime) -> Result<(), Fail> {
     let alloc = rt.alloc();
+    let narrow = cell_file(alloc, 0, 25_580)?;
+    let wide = cell_file(alloc, 1, 34_088)?;
     for most in [u32::MAX, 1] {
-        for (settings, mode, count, report, long, sum) in &LENGTHS {
-            let conditions = Conditions {
-                most,
-                ..ample(40_000)
-            };
-            let old_cells = cell_file(alloc, *mode, *count)?;
-            let ran = equalised(&rt, alloc, (*settings, ""), old_cells, conditions)?;
-            stands(&rt, &ran, (0, *report, *long, *sum));
-        }
+        let conditions = Conditions {
+            most,
+            ..ample(40_000)
+        };
+        rows_stand(&rt, alloc, &narrow, conditions, &LENGTHS)?;
+        rows_stand(&rt, alloc, &wide, conditions, &WIDE_LENGTHS)?;
     }
     Ok(())
 }
 
-// Symbols of each place among four in the 8K mode, and of a frame and three more in the 2K mode.
+/// Symbols of a frame and three more in the 2K mode.
+#[rattlefmt::skip]
+static FRAME: [Row<'static>; 1] = [
+    (EQUALISE, (BASE, ""), 605_283, (0, "symbols 71 tail 0\n", 605_283, 755_273_051)),
+];
+
+/// Symbols of each place among four in the 8K mode.
+#[rattlefmt::skip]
+static WIDE_FRAME: [Row<'static>; 1] = [
+    (EQUALISE, (WIDE, ""), 136_348, (0, "symbols 4 tail 0\n", 136_348, 909_070_439)),
+];
+
 #[test]
 fn symbols_of_every_phase(rt: HostRuntime) -> Result<(), Fail> {
     let alloc = rt.alloc();
-    let cases = [
-        (WIDE, 1, 136_340, "symbols 4 tail 0\n", 136_348, 909_070_439),
-        (
-            BASE,
-            0,
-            605_275,
-            "symbols 71 tail 0\n",
-            605_283,
-            755_273_051,
-        ),
-    ];
-    for (settings, mode, count, report, long, sum) in cases {
-        let old_cells = cell_file(alloc, mode, count)?;
-        let ran = equalised(&rt, alloc, (settings, ""), old_cells, ample(700_000))?;
-        stands(&rt, &ran, (0, report, long, sum));
-    }
+    let narrow = cell_file(alloc, 0, 605_275)?;
+    rows_stand(&rt, alloc, &narrow, ample(700_000), &FRAME)?;
+    let wide = cell_file(alloc, 1, 136_340)?;
+    rows_stand(&rt, alloc, &wide, ample(700_000), &WIDE_FRAME)?;
     Ok(())
 }
 
-// As many symbols as the limit, and one more or part of it.
-#[test]
-fn limits_of_symbols(rt: HostRuntime) -> Result<(), Fail> {
-    let alloc = rt.alloc();
-    let cases = [
-        (17_050, 0, "symbols 2 tail 0\n"),
-        (25_574, 0, "symbols 2 tail 8524\n"),
-        (25_575, 8, "limit 2\n"),
-        (25_580, 8, "limit 2\n"),
-    ];
-    for (count, status, report) in cases {
-        let limited = (BASE, "max_symbols = 2\n");
-        let old_cells = cell_file(alloc, 0, count)?;
-        let ran = equalised(&rt, alloc, limited, old_cells, ample(40_000))?;
-        stands(&rt, &ran, (status, report, 17_058, TWO_SYMBOLS));
-    }
-    Ok(())
-}
+const LIMITED: (&str, &str) = (BASE, "max_symbols = 2\n");
 
-const HEADLESS: &str = "cells header\n";
-
-/// Arguments, settings, the mode of the header, the length of the file, the status and its text.
-static REFUSED: [(&str, &str, u8, usize, u8, &str); 11] = [
-    ("equalise s a", BASE, 0, 8_533, 2, "usage\n"),
-    ("equalise s a b cells", LAYERED, 0, 8_533, 2, "usage\n"),
-    (EQUALISE, "mode =", 0, 8_533, 3, "settings not toml\n"),
-    (
-        EQUALISE,
-        "colour = 1\n",
-        0,
-        8_533,
-        3,
-        "settings unknown 0\n",
-    ),
-    (EQUALISE, "", 0, 8_533, 3, "settings missing mode\n"),
-    ("equalise gone a cells", BASE, 0, 8_533, 5, "read fault\n"),
-    ("equalise s gone cells", BASE, 0, 8_533, 5, "read fault\n"),
-    (EQUALISE, BASE, 0, 0, 9, HEADLESS),
-    (EQUALISE, BASE, 0, 7, 9, HEADLESS),
-    (EQUALISE, BASE, 1, 8_533, 9, HEADLESS),
-    (EQUALISE, WIDE, 0, 34_093, 9, HEADLESS),
+/// As many symbols as the limit, and one more or part of it.
+#[rattlefmt::skip]
+static LIMITS: [Row<'static>; 4] = [
+    (EQUALISE, LIMITED, 17_058, (0, "symbols 2 tail 0\n", 17_058, TWO_SYMBOLS)),
+    (EQUALISE, LIMITED, 25_582, (0, "symbols 2 tail 8524\n", 17_058, TWO_SYMBOLS)),
+    (EQUALISE, LIMITED, 25_583, (8, "limit 2\n", 17_058, TWO_SYMBOLS)),
+    (EQUALISE, LIMITED, 25_588, (8, "limit 2\n", 17_058, TWO_SYMBOLS)),
 ];
 
-// Invalid command lines, rejected settings, a missing file, and cells without the header of the mode: no new file is
-// created.
+#[test]
+fn limits_of_symbols(rt: HostRuntime) -> Result<(), Fail> {
+    let cells = cell_file(rt.alloc(), 0, 25_580)?;
+    rows_stand(&rt, rt.alloc(), &cells, ample(40_000), &LIMITS)?;
+    Ok(())
+}
+
+/// Invalid command lines, rejected settings, a missing file, and cells without the header of the mode: no new file is
+/// created.
+#[rattlefmt::skip]
+static REFUSED: [Row<'static>; 10] = [
+    ("equalise s a", (BASE, ""), 8_533, (2, "usage\n", 0, 0)),
+    ("equalise s a b cells", (LAYERED, ""), 8_533, (2, "usage\n", 0, 0)),
+    (EQUALISE, ("mode =", ""), 8_533, (3, "settings not toml\n", 0, 0)),
+    (EQUALISE, ("colour = 1\n", ""), 8_533, (3, "settings unknown 0\n", 0, 0)),
+    (EQUALISE, ("", ""), 8_533, (3, "settings missing mode\n", 0, 0)),
+    ("equalise gone a cells", (BASE, ""), 8_533, (5, READ, 0, 0)),
+    ("equalise s gone cells", (BASE, ""), 8_533, (5, READ, 0, 0)),
+    (EQUALISE, (BASE, ""), 0, (9, HEADLESS, 0, 0)),
+    (EQUALISE, (BASE, ""), 7, (9, HEADLESS, 0, 0)),
+    (EQUALISE, (WIDE, ""), 34_093, (9, HEADLESS, 0, 0)),
+];
+
+/// The header of the 8K mode.
+#[rattlefmt::skip]
+static WIDE_REFUSED: [Row<'static>; 1] = [
+    (EQUALISE, (BASE, ""), 8_533, (9, HEADLESS, 0, 0)),
+];
+
 #[test]
 fn refused_words_settings_and_cells(rt: HostRuntime) -> Result<(), Fail> {
     let alloc = rt.alloc();
-    for (text, settings, mode, length, status, report) in &REFUSED {
-        let settings = text_bytes(alloc, settings, "")?;
-        let mut old_cells = cell_file(alloc, *mode, 34_085)?;
-        old_cells.truncate(*length);
-        let inputs = (old_cells, Vec::new(alloc));
-        let ran = run_files(&rt, alloc, text, settings, inputs, 1, ample(40_000))?;
-        stands(&rt, &ran, (*status, *report, 0, 0));
-    }
+    let narrow = cell_file(alloc, 0, 34_085)?;
+    rows_stand(&rt, alloc, &narrow, ample(40_000), &REFUSED)?;
+    let wide = cell_file(alloc, 1, 34_085)?;
+    rows_stand(&rt, alloc, &wide, ample(40_000), &WIDE_REFUSED)?;
     Ok(())
 }
 
-const READ: &str = "read fault\n";
-
-const WRITE: &str = "write fault\n";
-
-/// The closing line after a failed write of it, or before a failed close.
-const HALF_LINE: &str = "symbols write fault\n";
-
+/// The report before a failed close.
 const CLOSED: &str = "symbols 2 tail 0\nwrite fault\n";
 
-/// A call that fails in the work on two symbols, and the expected result.
-static FAULTS: [(Failing, Found<'static>); 11] = [
+/// Calls that fail in the work on two symbols.
+#[rattlefmt::skip]
+static FAULTS: [Fault<'static>; 11] = [
     (Failing::Read(InPort::Settings, 1), (5, READ, 0, 0)),
     (Failing::Attach(InPort::Cells, 1), (5, READ, 0, 0)),
     (Failing::Read(InPort::Cells, 1), (5, READ, 0, 0)),
-    (Failing::Read(InPort::Cells, 2), (5, READ, 8, HEADER)),
-    (
-        Failing::Read(InPort::Cells, 3),
-        (5, READ, 8_533, ONE_SYMBOL),
-    ),
-    (
-        Failing::Read(InPort::Cells, 4),
-        (5, READ, 17_058, TWO_SYMBOLS),
-    ),
+    (Failing::Read(InPort::Cells, 2), (5, READ, HEADER, HEADER_SUM)),
+    (Failing::Read(InPort::Cells, 3), (5, READ, 8_533, ONE_SYMBOL)),
+    (Failing::Read(InPort::Cells, 4), (5, READ, 17_058, TWO_SYMBOLS)),
     (Failing::Create(OutPort::Cells, 1), (6, WRITE, 0, 0)),
-    (
-        Failing::Write(OutPort::Cells, 1),
-        (6, WRITE, 4, HALF_HEADER),
-    ),
-    (
-        Failing::Write(OutPort::Cells, 2),
-        (6, WRITE, 4_270, 1_023_285_492),
-    ),
-    (
-        Failing::Write(OutPort::Report, 1),
-        (6, HALF_LINE, 17_058, TWO_SYMBOLS),
-    ),
-    (
-        Failing::Close(OutPort::Cells, 1),
-        (6, CLOSED, 17_058, TWO_SYMBOLS),
-    ),
+    (Failing::Write(OutPort::Cells, 1), (6, WRITE, 4, HALF_HEADER)),
+    (Failing::Write(OutPort::Cells, 2), (6, WRITE, 4_270, 1_023_285_492)),
+    (Failing::Write(OutPort::Report, 1), (6, HALF_LINE, 17_058, TWO_SYMBOLS)),
+    (Failing::Close(OutPort::Cells, 1), (6, CLOSED, 17_058, TWO_SYMBOLS)),
 ];
 
-// One call of the station fails in a correction of two symbols, with this result.
 #[test]
 fn faults_of_the_station(rt: HostRuntime) -> Result<(), Fail> {
-    let alloc = rt.alloc();
-    for (call, found) in &FAULTS {
-        let conditions = Conditions {
-            failing: Some(*call),
-            ..ample(40_000)
-        };
-        let old_cells = cell_file(alloc, 0, 17_050)?;
-        let ran = equalised(&rt, alloc, (BASE, ""), old_cells, conditions)?;
-        stands(&rt, &ran, *found);
-    }
+    let cells = cell_file(rt.alloc(), 0, 17_050)?;
+    faults_stand(&rt, rt.alloc(), EQUALISE, &cells, 40_000, &FAULTS)?;
     Ok(())
 }

@@ -7,13 +7,13 @@
 #[cfg(test)]
 mod align_refused;
 #[cfg(test)]
-mod align_running;
-#[cfg(test)]
 mod aligned;
 #[cfg(test)]
 mod arithmetic;
 #[cfg(test)]
 mod both_bodies;
+#[cfg(test)]
+mod conversions;
 #[cfg(test)]
 mod corrected_cells;
 #[cfg(test)]

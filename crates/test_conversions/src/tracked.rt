@@ -1,14 +1,14 @@
 // The output of `track` for files of cells: the sums and digests are those of an independent program.
 use crate::tracking_files::{
-    HEADER, WIDE_HEADER, disturbed, has_digest, random_cells, still, sum_of, tracked, turned,
+    HEADER, TRACK, WIDE_HEADER, disturbed, has_digest, random_cells, still, sum_of, turned,
 };
 use std::alloc::{AllocError, Global};
 use std::process::Abort;
 use std::test::Fail;
 use std::thread::Threads;
 use test_runs::{
-    BASE, Conditions, SUPER_FRAME, SYMBOL, WHOLE_NULLS, WIDE_SYMBOL, ample, null_cells, run_files,
-    text_bytes,
+    BASE, Conditions, SUPER_FRAME, SYMBOL, WHOLE_NULLS, WIDE_SYMBOL, ample, null_cells,
+    run_on_cells,
 };
 
 /// The capacity of the new file.
@@ -25,7 +25,7 @@ fn compare<R: Abort + Threads + Sync>(
     rt: &R,
     alloc: Global,
     settings: &'static str,
-    cells: Vec<u8>,
+    cells: &[u8],
     most: u32,
     found: Found<'static>,
 ) -> Result<(), AllocError> {
@@ -33,7 +33,7 @@ fn compare<R: Abort + Threads + Sync>(
         most: most.max(1),
         ..ample(ROOM)
     };
-    let ran = tracked(rt, alloc, (settings, ""), cells, conditions)?;
+    let ran = run_on_cells(rt, alloc, TRACK, (settings, ""), cells, conditions)?;
     let sum = sum_of(&ran.cells);
     let same = has_digest(alloc, &ran.cells, found.2)?;
     assert!(rt; ran.status == 0, "{}", found.0);
@@ -63,7 +63,7 @@ fn random_cells_of_few_symbols(rt: HostRuntime) -> Result<(), Fail> {
             let count = (*symbols).clamp(1, 15) * SYMBOL as u32 + 3;
             let cells = random_cells(alloc, &HEADER, count, *symbols)?;
             assert_eq!(&rt; sum_of(&cells), *sum);
-            compare(&rt, alloc, BASE, cells, most, *found)?;
+            compare(&rt, alloc, BASE, &cells, most, *found)?;
         }
     }
     Ok(())
@@ -73,15 +73,14 @@ fn random_cells_of_few_symbols(rt: HostRuntime) -> Result<(), Fail> {
 #[test]
 fn nothing_to_track(rt: HostRuntime) -> Result<(), Fail> {
     let alloc = rt.alloc();
-    let header = Vec::from_slice(alloc, HEADER.as_slice())?;
-    let none = tracked(&rt, alloc, (BASE, ""), header, ample(ROOM))?;
+    let none = run_on_cells(&rt, alloc, TRACK, (BASE, ""), &HEADER, ample(ROOM))?;
     assert!(&rt; none.status == 0 && none.report.as_slice() == "symbols 0 tail 0\n".as_bytes());
     assert!(&rt; none.cells.as_slice() == HEADER.as_slice());
     let mut zeros = Vec::from_slice(alloc, HEADER.as_slice())?;
     for place in 0..SYMBOL {
         zeros.push(if place % 5 == 4 { 15 } else { 0 })?;
     }
-    let ran = tracked(&rt, alloc, (BASE, ""), zeros, ample(ROOM))?;
+    let ran = run_on_cells(&rt, alloc, TRACK, (BASE, ""), &zeros, ample(ROOM))?;
     assert!(&rt; ran.status == 0 && ran.report.as_slice() == "symbols 1 tail 0\n".as_bytes());
     assert!(&rt; ran.cells.len() == 8 + SYMBOL && sum_of(&ran.cells) == sum_of(&HEADER));
     Ok(())
@@ -111,7 +110,8 @@ fn quarter_turn(rt: HostRuntime) -> Result<(), Fail> {
     let alloc = rt.alloc();
     let sent = null_cells(&rt, alloc, BASE, false)?;
     let cells = turned(alloc, &sent)?;
-    let ran = tracked(&rt, alloc, (BASE, ""), cells, ample(SUPER_FRAME))?;
+    let room = ample(SUPER_FRAME);
+    let ran = run_on_cells(&rt, alloc, TRACK, (BASE, ""), &cells, room)?;
     assert!(&rt; ran.status == 0 && ran.report.as_slice() == "symbols 272 tail 0\n".as_bytes());
     assert_eq!(&rt; sum_of(&ran.cells), 232_894_504);
     let digest = "fd8eb29f2e97ec515ff0677ce9a518cdbbf71420227f8d18bfa271fc14595aa6";
@@ -119,19 +119,24 @@ fn quarter_turn(rt: HostRuntime) -> Result<(), Fail> {
     assert!(&rt; same);
     let (first, other) = (ran.cells.len().min(8), sent.len().min(8));
     assert!(&rt; are_near(&ran.cells[first..], &sent[other..]));
-    let settings = text_bytes(alloc, BASE, "")?;
-    let inputs = (ran.cells, Vec::new(alloc));
-    let back = run_files(
-        &rt,
-        alloc,
-        "receive s a hp",
-        settings,
-        inputs,
-        1,
-        ample(SUPER_FRAME),
-    )?;
+    let receive = "receive s a hp";
+    let back = run_on_cells(&rt, alloc, receive, (BASE, ""), &ran.cells, room)?;
     assert!(&rt; back.status == 0 && back.report.as_slice() == WHOLE_NULLS.as_bytes());
     Ok(())
+}
+
+// Tracks a file of this sum and this digest, and compares.
+fn compare_given<R: Abort + Threads + Sync>(
+    rt: &R,
+    alloc: Global,
+    cells: &[u8],
+    given: (u32, &str),
+    found: Found<'static>,
+) -> Result<(), AllocError> {
+    assert_eq!(rt; sum_of(cells), given.0);
+    let same = has_digest(alloc, cells, given.1)?;
+    assert!(rt; same);
+    compare(rt, alloc, BASE, cells, u32::MAX, found)
 }
 
 // Symbols hit by a pulse, and then noise: bad symbols are found by comparison with their neighbours, and the motion is
@@ -141,19 +146,10 @@ fn bad_symbols_and_noise(rt: HostRuntime) -> Result<(), Fail> {
     let alloc = rt.alloc();
     let sent = null_cells(&rt, alloc, BASE, false)?;
     let cells = disturbed(alloc, &sent)?;
-    assert_eq!(&rt; sum_of(&cells), 39_552_002);
     let given = "dadee93be79e4231b1bf688617d2de55fa5ad57cd8543f38068802c2d2941399";
-    let same = has_digest(alloc, &cells, given)?;
-    assert!(&rt; same);
     let digest = "a9f23d25db35324801f0ed441db763c2e88906ea197ed8ca7cde8a3413bee3f5";
-    compare(
-        &rt,
-        alloc,
-        BASE,
-        cells,
-        u32::MAX,
-        ("symbols 48 tail 0\n", 40_357_773, digest),
-    )?;
+    let found = ("symbols 48 tail 0\n", 40_357_773, digest);
+    compare_given(&rt, alloc, &cells, (39_552_002, given), found)?;
     Ok(())
 }
 
@@ -162,19 +158,10 @@ fn bad_symbols_and_noise(rt: HostRuntime) -> Result<(), Fail> {
 fn slow_on_a_tie(rt: HostRuntime) -> Result<(), Fail> {
     let alloc = rt.alloc();
     let cells = still(alloc)?;
-    assert_eq!(&rt; sum_of(&cells), 21_494_353);
     let given = "ad7ae21ec3d3750662a5fc2abf107198eb39a8e19f18983d3d023e12ee8e2ea4";
-    let same = has_digest(alloc, &cells, given)?;
-    assert!(&rt; same);
     let digest = "3bd6c11841030af796ba2f3682908fee388cbbf1d907571177ebfaf2945868dd";
-    compare(
-        &rt,
-        alloc,
-        BASE,
-        cells,
-        u32::MAX,
-        ("symbols 24 tail 0\n", 21_497_926, digest),
-    )?;
+    let found = ("symbols 24 tail 0\n", 21_497_926, digest);
+    compare_given(&rt, alloc, &cells, (21_494_353, given), found)?;
     Ok(())
 }
 
@@ -184,13 +171,7 @@ fn wide_symbols(rt: HostRuntime) -> Result<(), Fail> {
     let alloc = rt.alloc();
     let digest = "98c5cf2e8f81183f9e55be02582fbcb9a8a6eb6273573bd25b4cd9ca609ebf85";
     let cells = random_cells(alloc, &WIDE_HEADER, 9 * WIDE_SYMBOL as u32 + 5, 9)?;
-    compare(
-        &rt,
-        alloc,
-        WIDE,
-        cells,
-        u32::MAX,
-        ("symbols 9 tail 5\n", 31_726_969, digest),
-    )?;
+    let found = ("symbols 9 tail 5\n", 31_726_969, digest);
+    compare(&rt, alloc, WIDE, &cells, u32::MAX, found)?;
     Ok(())
 }

@@ -5,9 +5,7 @@ use rand_core::utils::NextWord;
 use rand_pcg::Lcg64Xsh32;
 use sha2::{Digest, Sha256};
 use std::alloc::{AllocError, Global};
-use std::process::Abort;
-use std::thread::Threads;
-use test_runs::{Conditions, Ran, SYMBOL, run_files, text_bytes};
+use test_runs::SYMBOL;
 
 pub(crate) const TRACK: &str = "track s a cells";
 
@@ -36,20 +34,6 @@ pub(crate) fn random_cells(
         bytes.push((words.next_word() % 256) as u8)?;
     }
     Ok(bytes)
-}
-
-/// Tracks this file.
-pub(crate) fn tracked<R: Abort + Threads + Sync>(
-    rt: &R,
-    alloc: Global,
-    settings: (&str, &str),
-    cells: Vec<u8>,
-    conditions: Conditions,
-) -> Result<Ran, AllocError> {
-    assert!(rt; conditions.most >= 1);
-    let settings = text_bytes(alloc, settings.0, settings.1)?;
-    let inputs = (cells, Vec::new(alloc));
-    run_files(rt, alloc, TRACK, settings, inputs, 1, conditions)
 }
 
 /// The sum of bytes.

@@ -1,27 +1,14 @@
 // Bursts in the interleaved bytes of packets.
 use load_gen::{Burst, Load};
-use outer_chain::{OuterRx, OuterTx};
+use outer_chain::OuterRx;
 use rs204::Outcome;
 use std::alloc::{AllocError, Global};
 use std::process::Abort;
 use std::test::Fail;
+use test_tools::interleaved;
 
 /// The number of unchanged bytes between two bursts that the law requires.
 const APART: usize = 2448;
-
-// Random packets from this number, and their interleaved bytes.
-fn sent(alloc: Global, number: u32, count: usize) -> Result<(Vec<u8>, Vec<u8>), AllocError> {
-    let mut load = Load::start(number);
-    let mut tx = OuterTx::new(alloc)?;
-    let mut packets = Vec::new(alloc);
-    let mut bytes = Vec::new(alloc);
-    for _ in 0..count {
-        let packet = load.packet();
-        packets.extend_from_slice(packet.bytes().as_slice())?;
-        bytes.extend_from_slice(tx.take(&packet).as_slice())?;
-    }
-    Ok((packets, bytes))
-}
 
 // Applies the mask to `len` bytes from an index on.
 fn lay(bytes: &mut [u8], first: usize, len: usize, mask: u8) {
@@ -100,7 +87,7 @@ fn comes_back(
 #[test]
 fn runs_of_96_and_97(rt: HostRuntime) -> Result<(), Fail> {
     let alloc = rt.alloc();
-    let thirty = sent(alloc, 15, 30)?;
+    let thirty = interleaved(alloc, 15, 30)?;
     let cases = [
         (2400, 96, [].as_slice()),
         (2448, 96, [].as_slice()),
@@ -134,7 +121,7 @@ fn lay_drawn(bytes: &mut [u8], number: u32) {
 
 // Whether the bursts of this number change bytes, but no packet.
 fn nothing_is_lost(rt: &impl Abort, alloc: Global, number: u32) -> Result<bool, AllocError> {
-    let (packets, bytes) = sent(alloc, number, 80)?;
+    let (packets, bytes) = interleaved(alloc, number, 80)?;
     let mut received = bytes.clone()?;
     lay_drawn(&mut received, number);
     let (found, bad) = back(alloc, &received)?;

@@ -1,12 +1,11 @@
 // The symbols of null packets.
 ghost use Rattle.std.specs.Prelude.{◌≡◌};
 
-use mode_set::{
-    Carriers, Guard, Hierarchy, Mode, Mode2k, Mode8k, Plan, Rate, Settings, Shape, Start,
-};
+use mode_set::{Carriers, Mode, Mode2k, Mode8k, Rate, Settings, Shape, Start};
 use modulator::{Modulator, Want};
 use std::alloc::{AllocError, Global};
 use std::process::Abort;
+use test_tools::flat;
 use ts_packet::Packet;
 
 /// The bytes of a symbol of the 2K mode.
@@ -19,19 +18,9 @@ pub(crate) const WIDE_SYMBOL: usize = 34085;
 pub(crate) fn settings(start: Start) -> Settings
     ensures { result.mode ≡ Mode.M2k }
 {
-    Settings {
-        mode: Mode::M2k,
-        shape: Shape::Qpsk,
-        hierarchy: Hierarchy::Flat,
-        rate_hp: Rate::R1of2,
-        rate_lp: None,
-        guard: Guard::G1of32,
-        cell_id: None,
-        start,
-        workers: 1,
-        max_symbols: 1000000,
-        plan: Plan::none(),
-    }
+    let mut settings = flat(Mode::M2k, Shape::Qpsk, Rate::R1of2);
+    settings.start = start;
+    settings
 }
 
 /// QPSK at 1/2 in the 8K mode.

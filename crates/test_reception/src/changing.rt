@@ -1,12 +1,10 @@
 // `tune` across super-frames with changing parameters. The expected reports, lengths and sums are those of an
 // independent program.
 use std::alloc::{AllocError, Global};
+use std::process::Abort;
 use std::test::Fail;
 use std::thread::Threads;
-use test_runs::{
-    BASE, EMPTY, File, Found, Held, LAYERED, SUPER_FRAME, SYMBOL, ample, run_files, stands,
-    text_bytes,
-};
+use test_runs::{BASE, EMPTY, Held, LAYERED, SUPER_FRAME, SYMBOL, ample, heard, leaves, sent};
 
 // A transmission: its settings, its plan, and its packets of HP and of LP.
 type Sent<'a> = (&'a str, &'a str, (u32, Option<u32>));
@@ -33,50 +31,15 @@ const CHANGED_BEHIND: &str =
 const HP: Held = Some((1_316, 50_597_823));
 
 // The header of the transmission's cells, then its symbols from number 163 on, up to this one.
-fn heard<R: Threads + Sync>(
+fn late<R: Abort + Threads + Sync>(
     rt: &R,
     alloc: Global,
-    sent: Sent<'_>,
+    (settings, plan, packets): Sent<'_>,
     end: usize,
 ) -> Result<Vec<u8>, AllocError> {
-    let hp = File::Counted(sent.2.0, 0).bytes(alloc)?;
-    let (words, lp) = match sent.2.1 {
-        Some(count) => (
-            "modulate s a b cells",
-            File::Counted(count, 0).bytes(alloc)?,
-        ),
-        None => ("modulate s a cells", Vec::new(alloc)),
-    };
-    let settings = text_bytes(alloc, sent.0, sent.1)?;
-    let ran = run_files(
-        rt,
-        alloc,
-        words,
-        settings,
-        (hp, lp),
-        1000,
-        ample(3 * SUPER_FRAME),
-    )?;
-    let mut bytes = Vec::new(alloc);
-    let end = (8 + end.min(600) * SYMBOL).min(ran.cells.len());
-    let begin = (8 + 163 * SYMBOL).min(end);
-    bytes.extend_from_slice(&ran.cells[..8.min(begin)])?;
-    bytes.extend_from_slice(&ran.cells[begin..end])?;
-    Ok(bytes)
-}
-
-// Tunes in to this file with settings without a plan.
-fn is_found<R: Threads + Sync>(
-    rt: &R,
-    alloc: Global,
-    cells: &[u8],
-    words: &str,
-    found: Found<'_>,
-) -> Result<bool, AllocError> {
-    let settings = text_bytes(alloc, BASE, "")?;
-    let inputs = (Vec::from_slice(alloc, cells)?, Vec::new(alloc));
-    let ran = run_files(rt, alloc, words, settings, inputs, 1, ample(SUPER_FRAME))?;
-    Ok(stands(&ran, found))
+    let cells = sent(rt, alloc, (settings, plan), packets, 3)?;
+    let end = (8 + end.min(600) * SYMBOL).min(cells.len());
+    heard(alloc, &cells[..end], SYMBOL, 163, 0)
 }
 
 // The parameters change at the super-frame that `tune` waits for: the ones announced for it are used, even if LP
@@ -111,14 +74,11 @@ fn parameters_change_while_tuning(rt: HostRuntime) -> Result<(), Fail> {
         ),
         ((BASE, DENSER, (600, None)), 568, "tune s a hp", changed),
     ];
+    let room = ample(SUPER_FRAME);
     for (sent, end, words, found) in cases {
-        let cells = heard(&rt, alloc, sent, end)?;
-        assert!(rt;
-            is_found(&rt, alloc, &cells, words, found)?,
-            "{} {}",
-            words,
-            sent.1
-        );
+        let cells = late(&rt, alloc, sent, end)?;
+        let is_so = leaves(&rt, alloc, words, (BASE, ""), &cells, room, found)?;
+        assert!(rt; is_so, "{} {}", words, sent.1);
     }
     Ok(())
 }

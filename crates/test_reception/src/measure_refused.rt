@@ -1,12 +1,9 @@
 // Invalid command lines, rejected settings and cells, and faults. The expected reports are those of an independent
 // program.
-use crate::measure_running::{MEASURE, first, measured, sent, stands};
+use crate::measure_running::{MEASURE, first, stands};
 use station_core::{Failing, InPort, OutPort};
 use std::test::Fail;
-use test_runs::{BASE, Conditions, LAYERED, ample, run_files, text_bytes};
-
-/// QPSK at 1/2 in the 8K mode.
-const WIDE: &str = "mode = \"8k\"\nconstellation = \"qpsk\"\nrate_hp = \"1/2\"\nguard = \"1/32\"\n";
+use test_runs::{BASE, Conditions, LAYERED, WIDE, ample, run_on_cells, sent};
 
 /// Arguments, settings, the length of the file, the status and its text.
 static REFUSED: [(&str, &str, usize, u8, &str); 10] = [
@@ -25,12 +22,10 @@ static REFUSED: [(&str, &str, usize, u8, &str); 10] = [
 #[test]
 fn refused_words_settings_and_cells(rt: HostRuntime) -> Result<(), Fail> {
     let alloc = rt.alloc();
+    let header = b"DVTC\x02\0\0\0";
     for (text, settings, length, status, report) in &REFUSED {
-        let settings = text_bytes(alloc, settings, "")?;
-        let mut cells = Vec::from_slice(alloc, b"DVTC\x02\0\0\0".as_slice())?;
-        cells.truncate(*length);
-        let inputs = (cells, Vec::new(alloc));
-        let ran = run_files(&rt, alloc, text, settings, inputs, 1, ample(5_000))?;
+        let cells = &header[..(*length).min(8)];
+        let ran = run_on_cells(&rt, alloc, text, (*settings, ""), cells, ample(5_000))?;
         stands(&rt, &ran, *status, report);
     }
     Ok(())
@@ -75,8 +70,7 @@ fn faults(rt: HostRuntime) -> Result<(), Fail> {
             failing: Some(*call),
             ..ample(5_000)
         };
-        let again = Vec::from_slice(alloc, &file)?;
-        let ran = measured(&rt, alloc, (BASE, ""), again, conditions)?;
+        let ran = run_on_cells(&rt, alloc, MEASURE, (BASE, ""), &file, conditions)?;
         stands(&rt, &ran, *status, report);
     }
     Ok(())

@@ -2,23 +2,9 @@
 use std::alloc::{AllocError, Global};
 use std::process::Abort;
 use std::thread::Threads;
-use test_runs::{Conditions, File, Ran, SUPER_FRAME, SYMBOL, UNMADE, ample, run_files, text_bytes};
+use test_runs::{Ran, SYMBOL, UNMADE, ample, run_on_cells};
 
 pub(crate) const MEASURE: &str = "measure s a";
-
-/// Measures this file.
-pub(crate) fn measured<R: Abort + Threads + Sync>(
-    rt: &R,
-    alloc: Global,
-    settings: (&str, &str),
-    cells: Vec<u8>,
-    conditions: Conditions,
-) -> Result<Ran, AllocError> {
-    assert!(rt; conditions.most >= 1);
-    let settings = text_bytes(alloc, settings.0, settings.1)?;
-    let inputs = (cells, Vec::new(alloc));
-    run_files(rt, alloc, MEASURE, settings, inputs, 1, conditions)
-}
 
 /// Compares the result. No output is created.
 pub(crate) fn stands(rt: &impl Abort, ran: &Ran, status: u8, report: &str) {
@@ -34,34 +20,12 @@ pub(crate) fn prints<R: Abort + Threads + Sync>(
     rt: &R,
     alloc: Global,
     settings: (&str, &str),
-    cells: Vec<u8>,
+    cells: &[u8],
     report: &str,
 ) -> Result<(), AllocError> {
-    let ran = measured(rt, alloc, settings, cells, ample(5_000))?;
+    let ran = run_on_cells(rt, alloc, MEASURE, settings, cells, ample(5_000))?;
     stands(rt, &ran, 0, report);
     Ok(())
-}
-
-/// The cells of a transmission of this number of packets with counting payloads, of one stream or of two. The only
-/// error is lack of memory.
-pub(crate) fn sent<R: Threads + Sync>(
-    rt: &R,
-    alloc: Global,
-    settings: (&str, &str),
-    packets: (u32, Option<u32>),
-    super_frames: u32,
-) -> Result<Vec<u8>, AllocError> {
-    let hp = File::Counted(packets.0, 0).bytes(alloc)?;
-    let (words, lp) = match packets.1 {
-        Some(count) => (
-            "modulate s a b cells",
-            File::Counted(count, 0).bytes(alloc)?,
-        ),
-        None => ("modulate s a cells", Vec::new(alloc)),
-    };
-    let settings = text_bytes(alloc, settings.0, settings.1)?;
-    let room = ample(super_frames.min(9) * SUPER_FRAME);
-    Ok(run_files(rt, alloc, words, settings, (hp, lp), 1000, room)?.cells)
 }
 
 /// The header of a file and a number of its symbols, and this many bytes after them.

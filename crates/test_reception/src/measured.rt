@@ -1,10 +1,10 @@
 // The measurement of one super-frame. The expected reports are those of an independent program.
-use crate::measure_running::{first, negate, prints, sent};
+use crate::measure_running::{first, negate, prints};
 use mode_set::Mode;
 use pilots::CarrierKind::Payload;
 use pilots::kind;
 use std::test::Fail;
-use test_runs::{BASE, LAYERED, SYMBOL, WIDE_SYMBOL, null_cells, wide_null_cells};
+use test_runs::{BASE, LAYERED, SYMBOL, WIDE, WIDE_SYMBOL, null_cells, sent, wide_null_cells};
 
 const NULLS: &str =
     "superframe 0 symbols 272 cells 411264 muted 0 power 110393313004800 error 0 tps read 4 bad 0\nhp bits 822528 wrong 0 words 241 clean 241 corrected 0 bad 0 unphased 0 unmerged 0 repaired 0\nsymbols 272 tail 0\ntps read 4 bad 0\nhp words 241 clean 241 corrected 0 bad 0 unphased 0 unmerged 0\n";
@@ -14,7 +14,7 @@ const NULLS: &str =
 fn own_cells(rt: HostRuntime) -> Result<(), Fail> {
     let alloc = rt.alloc();
     let cells = null_cells(&rt, alloc, BASE, false)?;
-    prints(&rt, alloc, (BASE, ""), cells, NULLS)?;
+    prints(&rt, alloc, (BASE, ""), &cells, NULLS)?;
     Ok(())
 }
 
@@ -51,7 +51,7 @@ fn moved_cells(rt: HostRuntime) -> Result<(), Fail> {
     for symbol in 0..272usize {
         move_data(&mut cells, symbol);
     }
-    prints(&rt, alloc, (LAYERED, ""), cells, MOVED)?;
+    prints(&rt, alloc, (LAYERED, ""), &cells, MOVED)?;
     Ok(())
 }
 
@@ -66,7 +66,7 @@ fn second_super_frame(rt: HostRuntime) -> Result<(), Fail> {
     let mut second = first(alloc, &cells, 0, 0)?;
     let begin = (8 + 272 * SYMBOL).min(cells.len());
     second.extend_from_slice(&cells[begin..])?;
-    prints(&rt, alloc, (BASE, "start = \"any\"\n"), second, SECOND)?;
+    prints(&rt, alloc, (BASE, "start = \"any\"\n"), &second, SECOND)?;
     Ok(())
 }
 
@@ -83,7 +83,7 @@ fn muted_cells(rt: HostRuntime) -> Result<(), Fail> {
             *byte = 0;
         }
     }
-    prints(&rt, alloc, (BASE, ""), cells, MUTED)?;
+    prints(&rt, alloc, (BASE, ""), &cells, MUTED)?;
     Ok(())
 }
 
@@ -99,7 +99,7 @@ fn negated_cell(rt: HostRuntime) -> Result<(), Fail> {
     let place = 8 + 5 * SYMBOL + 5;
     negate(&mut cells, place);
     negate(&mut cells, place + 2);
-    prints(&rt, alloc, (BASE, ""), cells, NEGATED)?;
+    prints(&rt, alloc, (BASE, ""), &cells, NEGATED)?;
     Ok(())
 }
 
@@ -114,11 +114,9 @@ fn negated_half_symbol(rt: HostRuntime) -> Result<(), Fail> {
     for carrier in 0..852usize {
         negate(&mut cells, 8 + 100 * SYMBOL + 5 * carrier);
     }
-    prints(&rt, alloc, (BASE, ""), cells, FADED)?;
+    prints(&rt, alloc, (BASE, ""), &cells, FADED)?;
     Ok(())
 }
-
-const WIDE: &str = "mode = \"8k\"\nconstellation = \"qpsk\"\nrate_hp = \"1/2\"\nguard = \"1/32\"\n";
 
 const TWENTY: &str =
     "superframe 0 symbols 20 cells 120960 muted 0 power 32468621472000 error 0 tps read 0 bad 0\nhp bits 241920 wrong 0 words 63 clean 63 corrected 0 bad 0 unphased 0 unmerged 0 repaired 0\nsymbols 20 tail 9\ntps read 0 bad 0\nhp words 63 clean 63 corrected 0 bad 0 unphased 0 unmerged 0\n";
@@ -129,7 +127,7 @@ fn wide_symbols(rt: HostRuntime) -> Result<(), Fail> {
     let alloc = rt.alloc();
     let mut cells = wide_null_cells(&rt, alloc, WIDE)?;
     cells.truncate(8 + 20 * WIDE_SYMBOL + 9);
-    prints(&rt, alloc, (WIDE, ""), cells, TWENTY)?;
+    prints(&rt, alloc, (WIDE, ""), &cells, TWENTY)?;
     Ok(())
 }
 
@@ -153,12 +151,12 @@ const ONE_PUNCTURED: &str =
 fn few_symbols(rt: HostRuntime) -> Result<(), Fail> {
     let alloc = rt.alloc();
     let cells = null_cells(&rt, alloc, BASE, false)?;
-    prints(&rt, alloc, (BASE, ""), first(alloc, &cells, 0, 0)?, NONE)?;
-    prints(&rt, alloc, (BASE, ""), first(alloc, &cells, 1, 7)?, ONE)?;
+    prints(&rt, alloc, (BASE, ""), &first(alloc, &cells, 0, 0)?, NONE)?;
+    prints(&rt, alloc, (BASE, ""), &first(alloc, &cells, 1, 7)?, ONE)?;
     let any = (BASE, "start = \"any\"\n");
-    prints(&rt, alloc, any, first(alloc, &cells, 1, 7)?, ONE_OF_ANY)?;
+    prints(&rt, alloc, any, &first(alloc, &cells, 1, 7)?, ONE_OF_ANY)?;
     let cells = null_cells(&rt, alloc, PUNCTURED, false)?;
     let one = first(alloc, &cells, 1, 0)?;
-    prints(&rt, alloc, (PUNCTURED, ""), one, ONE_PUNCTURED)?;
+    prints(&rt, alloc, (PUNCTURED, ""), &one, ONE_PUNCTURED)?;
     Ok(())
 }

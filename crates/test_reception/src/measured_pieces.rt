@@ -6,7 +6,7 @@ use std::alloc::{AllocError, Global};
 use std::process::Abort;
 use std::test::Fail;
 use std::thread::Threads;
-use test_runs::{BASE, SYMBOL, WIDE_SYMBOL, null_cells, wide_null_cells};
+use test_runs::{BASE, SYMBOL, WIDE, WIDE_SYMBOL, null_cells, wide_null_cells};
 use test_tools::flat;
 use word_workers::OpenGate;
 
@@ -84,8 +84,6 @@ fn pieces_of_symbols(rt: HostRuntime) -> Result<(), Fail> {
     }
     Ok(())
 }
-
-const WIDE: &str = "mode = \"8k\"\nconstellation = \"qpsk\"\nrate_hp = \"1/2\"\nguard = \"1/32\"\n";
 
 const FIVE: &str =
     "superframe 0 symbols 5 cells 30240 muted 0 power 8117155368000 error 0 tps read 0 bad 0\nhp bits 60480 wrong 0 words 7 clean 7 corrected 0 bad 0 unphased 0 unmerged 0 repaired 0\nsymbols 5 tail 0\ntps read 0 bad 0\nhp words 7 clean 7 corrected 0 bad 0 unphased 0 unmerged 0\n";

@@ -1,7 +1,7 @@
 // Transmissions with changing parameters. The expected reports are those of an independent program.
-use crate::measure_running::{first, measured, prints, sent, stands};
+use crate::measure_running::{MEASURE, first, prints, stands};
 use std::test::Fail;
-use test_runs::{BASE, LAYERED, ample};
+use test_runs::{BASE, LAYERED, ample, run_on_cells, sent};
 
 /// LP appears with the second super-frame.
 const LP_COMES: &str =
@@ -21,9 +21,8 @@ const COMES_ANY: &str =
 fn lp_comes(rt: HostRuntime) -> Result<(), Fail> {
     let alloc = rt.alloc();
     let cells = sent(&rt, alloc, (BASE, LP_COMES), (300, Some(100)), 2)?;
-    let again = cells.clone()?;
-    prints(&rt, alloc, (BASE, LP_COMES), cells, COMES)?;
-    prints(&rt, alloc, (BASE, LP_COMES_ANY), again, COMES_ANY)?;
+    prints(&rt, alloc, (BASE, LP_COMES), &cells, COMES)?;
+    prints(&rt, alloc, (BASE, LP_COMES_ANY), &cells, COMES_ANY)?;
     Ok(())
 }
 
@@ -47,9 +46,9 @@ fn lp_pauses(rt: HostRuntime) -> Result<(), Fail> {
     let cells = sent(&rt, alloc, (LAYERED, LP_PAUSES), (300, Some(500)), 4)?;
     let few = first(alloc, &cells, 274, 0)?;
     let more = first(alloc, &cells, 275, 0)?;
-    prints(&rt, alloc, (LAYERED, LP_PAUSES), few, PAUSES_274)?;
-    prints(&rt, alloc, (LAYERED, LP_PAUSES), more, PAUSES_275)?;
-    prints(&rt, alloc, (LAYERED, LP_PAUSES), cells, PAUSES)?;
+    prints(&rt, alloc, (LAYERED, LP_PAUSES), &few, PAUSES_274)?;
+    prints(&rt, alloc, (LAYERED, LP_PAUSES), &more, PAUSES_275)?;
+    prints(&rt, alloc, (LAYERED, LP_PAUSES), &cells, PAUSES)?;
     Ok(())
 }
 
@@ -73,8 +72,7 @@ fn limits_of_symbols(rt: HostRuntime) -> Result<(), Fail> {
     let alloc = rt.alloc();
     let cells = sent(&rt, alloc, (BASE, ""), (300, None), 2)?;
     for (more, report) in &LIMITS {
-        let file = Vec::from_slice(alloc, &cells)?;
-        let ran = measured(&rt, alloc, (BASE, *more), file, ample(5_000))?;
+        let ran = run_on_cells(&rt, alloc, MEASURE, (BASE, *more), &cells, ample(5_000))?;
         stands(&rt, &ran, 8, report);
     }
     Ok(())

@@ -1,14 +1,11 @@
 // The command `rescue`. The expected reports, lengths and sums are those of an independent program.
-ghost use Rattle.std.specs.Prelude.{◌≤◌};
-
 use station_core::{Failing, InPort, OutPort};
 use std::alloc::{AllocError, Global};
-use std::process::Abort;
 use std::test::Fail;
 use std::thread::Threads;
 use test_runs::{
-    BASE, Conditions, EMPTY, Found, Held, LAYERED, SUPER_FRAME, SYMBOL, WIDE_SYMBOL, ample, noisy,
-    null_cells, run_files, stands, text_bytes, wide_null_cells,
+    BASE, Conditions, EMPTY, Fault, Found, Held, LAYERED, SUPER_FRAME, SYMBOL, WIDE_SYMBOL, ample,
+    first_wrong, leaves, noisy, null_cells, wide_null_cells,
 };
 
 /// QPSK at 7/8.
@@ -79,24 +76,6 @@ fn disturbed<R: Threads + Sync>(
 ) -> Result<Vec<u8>, AllocError> {
     let cells = null_cells(rt, alloc, file.0, two)?;
     noisy(alloc, front(&cells, file.1), file.2)
-}
-
-// Whether these arguments with this file have this result.
-fn leaves<R: Threads + Sync>(
-    rt: &R,
-    alloc: Global,
-    words: &str,
-    settings: (&str, &str),
-    file: &[u8],
-    conditions: Conditions,
-    found: Found<'_>,
-) -> Result<bool, AllocError>
-    requires { 1 ≤ conditions.most }
-{
-    let settings = text_bytes(alloc, settings.0, settings.1)?;
-    let inputs = (Vec::from_slice(alloc, file)?, Vec::new(alloc));
-    let ran = run_files(rt, alloc, words, settings, inputs, 1, conditions)?;
-    Ok(stands(&ran, found))
 }
 
 const ANY: &str = "start = \"any\"\n";
@@ -180,82 +159,26 @@ fn limits_of_symbols(rt: HostRuntime) -> Result<(), Fail> {
     Ok(())
 }
 
-/// A call that fails, and the expected result.
-type Fault<'a> = (Failing, Found<'a>);
-
-/// Those of one stream.
+/// Calls that fail, of one stream.
+#[rattlefmt::skip]
 static FAULTS: [Fault<'static>; 8] = [
-    (
-        Failing::Read(InPort::Settings, 1),
-        (5, "read fault\n", None, None),
-    ),
-    (
-        Failing::Attach(InPort::Cells, 1),
-        (5, "read fault\n", None, None),
-    ),
-    (
-        Failing::Read(InPort::Cells, 1),
-        (5, "read fault\n", None, None),
-    ),
-    (
-        Failing::Read(InPort::Cells, 21),
-        (5, "read fault\n", ALL_BUT_ONE, None),
-    ),
-    (
-        Failing::Create(OutPort::Hp, 1),
-        (6, "write fault\n", None, None),
-    ),
-    (
-        Failing::Write(OutPort::Hp, 1),
-        (6, "write fault\n", HALF, None),
-    ),
-    (
-        Failing::Write(OutPort::Report, 1),
-        (6, "symbols 2write fault\n", ALL, None),
-    ),
+    (Failing::Read(InPort::Settings, 1), (5, "read fault\n", None, None)),
+    (Failing::Attach(InPort::Cells, 1), (5, "read fault\n", None, None)),
+    (Failing::Read(InPort::Cells, 1), (5, "read fault\n", None, None)),
+    (Failing::Read(InPort::Cells, 21), (5, "read fault\n", ALL_BUT_ONE, None)),
+    (Failing::Create(OutPort::Hp, 1), (6, "write fault\n", None, None)),
+    (Failing::Write(OutPort::Hp, 1), (6, "write fault\n", HALF, None)),
+    (Failing::Write(OutPort::Report, 1), (6, "symbols 2write fault\n", ALL, None)),
     (Failing::Close(OutPort::Hp, 1), (6, CLOSED, ALL, None)),
 ];
 
 /// Those of two streams at LP, whose first two packets are output with the tenth symbol.
+#[rattlefmt::skip]
 static FAULTS_OF_LP: [Fault<'static>; 3] = [
-    (
-        Failing::Create(OutPort::Lp, 1),
-        (6, "write fault\n", EMPTY, None),
-    ),
-    (
-        Failing::Write(OutPort::Lp, 1),
-        (6, "write fault\n", EMPTY, Some((188, 2_061_598_505))),
-    ),
-    (
-        Failing::Close(OutPort::Lp, 1),
-        (
-            6,
-            CLOSED_OF_TWO,
-            Some((3_008, 2_915_110_544)),
-            Some((5_640, 3_964_788_347)),
-        ),
-    ),
+    (Failing::Create(OutPort::Lp, 1), (6, "write fault\n", EMPTY, None)),
+    (Failing::Write(OutPort::Lp, 1), (6, "write fault\n", EMPTY, Some((188, 2_061_598_505)))),
+    (Failing::Close(OutPort::Lp, 1), (6, CLOSED_OF_TWO, Some((3_008, 2_915_110_544)), Some((5_640, 3_964_788_347)))),
 ];
-
-// The index of the first call whose failure gives another result for this file.
-fn first_wrong<R: Threads + Sync>(
-    rt: &R,
-    alloc: Global,
-    (words, settings): (&str, &str),
-    file: &[u8],
-    faults: &[Fault<'_>],
-) -> Result<Option<usize>, AllocError> {
-    for (number, (call, found)) in faults.iter().enumerate() {
-        let conditions = Conditions {
-            failing: Some(*call),
-            ..ample(SUPER_FRAME)
-        };
-        if !leaves(rt, alloc, words, (settings, ""), file, conditions, *found)? {
-            return Ok(Some(number));
-        }
-    }
-    Ok(None)
-}
 
 // One call of the station fails. A failed write writes the first half of its bytes.
 #[test]
@@ -263,13 +186,12 @@ fn faults_of_the_station(rt: HostRuntime) -> Result<(), Fail> {
     let alloc = rt.alloc();
     let file = disturbed(&rt, alloc, (SIXTEEN, 20, 7_380), false)?;
     let run = ("rescue s a hp", SIXTEEN);
-    assert_eq!(rt; first_wrong(&rt, alloc, run, &file, &FAULTS)?, None);
+    let wrong = first_wrong(&rt, alloc, run, &file, SUPER_FRAME, &FAULTS)?;
+    assert_eq!(rt; wrong, None);
     let layered = disturbed(&rt, alloc, (LAYERED, 30, 2_680), true)?;
     let run = ("rescue s a hp lp", LAYERED);
-    assert_eq!(rt;
-        first_wrong(&rt, alloc, run, &layered, &FAULTS_OF_LP)?,
-        None
-    );
+    let wrong = first_wrong(&rt, alloc, run, &layered, SUPER_FRAME, &FAULTS_OF_LP)?;
+    assert_eq!(rt; wrong, None);
     // within the header of the cells
     let pieces = Conditions {
         most: 5,

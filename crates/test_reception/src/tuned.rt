@@ -1,15 +1,17 @@
 // The command `tune`. The expected reports, lengths and sums are those of an independent program.
-ghost use Rattle.std.specs.Prelude.{◌≤◌};
-
 use station_core::{Failing, InPort, OutPort};
 use std::alloc::{AllocError, Global};
 use std::process::Abort;
 use std::test::Fail;
 use std::thread::Threads;
 use test_runs::{
-    BASE, Conditions, EMPTY, File, Found, Held, LAYERED, Ran, SUPER_FRAME, SYMBOL, WIDE_SYMBOL,
-    ample, noisy, null_cells, run_files, stands, text_bytes, wide_null_cells,
+    BASE, EMPTY, Fault, File, Found, Held, LAYERED, SUPER_FRAME, SYMBOL, WIDE, WIDE_SYMBOL, ample,
+    first_wrong, heard, leaves, noisy, null_cells, run_on_cells, sent, wide_null_cells,
 };
+
+const ONE: &str = "tune s a hp";
+
+const TWO: &str = "tune s a hp lp";
 
 /// The number of symbols taken from the super-frame that follows.
 const FOLLOWING: usize = 24;
@@ -29,6 +31,11 @@ const ALL_BUT_ONE: Held = Some((1_880, 3_596_870_170));
 /// Half of the first packet.
 const HALF: Held = Some((94, 2_357_816_009));
 
+/// The first packet of HP, and six packets of LP.
+const ONE_PACKET: Held = Some((188, 2_061_598_505));
+
+const SIX_PACKETS: Held = Some((1_128, 2_307_759_734));
+
 /// The closing lines, before a failed close.
 const CLOSED: &str =
     "tune at 4 frame 4\nsymbols 24 tail 0\ntps read 0 bad 0\nhp words 11 clean 11 corrected 0 bad 0 unphased 0 unmerged 0\nwrite fault\n";
@@ -45,73 +52,18 @@ const AT_ZERO: &str =
 const SECOND: &str =
     "tune at 58 frame 2\nsymbols 272 tail 0\ntps read 4 bad 0\nhp words 241 clean 241 corrected 0 bad 0 unphased 4 unmerged 0\n";
 
-/// QPSK at 1/2 in the 8K mode.
-const EIGHT: &str =
-    "mode = \"8k\"\nconstellation = \"qpsk\"\nrate_hp = \"1/2\"\nguard = \"1/32\"\n";
-
-// The header, then the symbols of that file from this one on and the first ones of a super-frame that follows.
-fn heard(
-    alloc: Global,
-    cells: &[u8],
-    first: usize,
-    following: usize,
-) -> Result<Vec<u8>, AllocError> {
-    heard_in(alloc, cells, SYMBOL, first, following)
-}
-
-// The same for symbols of this number of bytes.
-fn heard_in(
-    alloc: Global,
-    cells: &[u8],
-    symbol: usize,
-    first: usize,
-    following: usize,
-) -> Result<Vec<u8>, AllocError> {
-    let mut bytes = Vec::new(alloc);
-    let symbol = symbol.min(WIDE_SYMBOL);
-    let begin = (8 + first.min(300) * symbol).min(cells.len());
-    let end = (8 + following.min(300) * symbol).min(cells.len());
-    bytes.extend_from_slice(&cells[..8.min(cells.len())])?;
-    bytes.extend_from_slice(&cells[begin..])?;
-    bytes.extend_from_slice(&cells[8.min(end)..end])?;
-    Ok(bytes)
-}
-
-// Tunes in to this file with settings of its own.
-fn tuned<R: Threads + Sync>(
-    rt: &R,
-    alloc: Global,
-    settings: (&str, &str),
-    cells: Vec<u8>,
-    two: bool,
-    conditions: Conditions,
-) -> Result<Ran, AllocError>
-    requires { 1 ≤ conditions.most }
-{
-    let words = if two { "tune s a hp lp" } else { "tune s a hp" };
-    let settings = text_bytes(alloc, settings.0, settings.1)?;
-    run_files(
-        rt,
-        alloc,
-        words,
-        settings,
-        (cells, Vec::new(alloc)),
-        1,
-        conditions,
-    )
-}
-
 // A transmission with these choices is found from this symbol on, with its own settings and with others.
-fn is_found<R: Threads + Sync>(
+fn is_found<R: Abort + Threads + Sync>(
     rt: &R,
     alloc: Global,
     case: Announced<'_>,
 ) -> Result<bool, AllocError> {
     let two = case.2.3.is_some();
+    let words = if two { TWO } else { ONE };
     let cells = null_cells(rt, alloc, case.0, two)?;
-    let file = heard(alloc, &cells, case.1, FOLLOWING)?;
-    let ran = tuned(rt, alloc, (BASE, ""), file, two, ample(SUPER_FRAME))?;
-    Ok(stands(&ran, case.2))
+    let file = heard(alloc, &cells, SYMBOL, case.1, FOLLOWING)?;
+    let room = ample(SUPER_FRAME);
+    leaves(rt, alloc, words, (BASE, ""), &file, room, case.2)
 }
 
 /// Each constellation without a hierarchy.
@@ -253,16 +205,17 @@ const MOSTLY_BAD: &str =
 fn noise_on_all_cells(rt: HostRuntime) -> Result<(), Fail> {
     let alloc = rt.alloc();
     let cells = null_cells(&rt, alloc, SIXTEEN, false)?;
-    let file = heard(alloc, &cells, 155, FOLLOWING)?;
+    let file = heard(alloc, &cells, SYMBOL, 155, FOLLOWING)?;
+    let room = ample(SUPER_FRAME);
     let cases = [
         (7_000, (0, CORRECTED, Some((9_024, 2_591_075_248)), None)),
         (7_500, (0, MOSTLY_BAD, Some((9_024, 2_945_153_715)), None)),
         (28_000, (10, "tune none\n", EMPTY, None)),
     ];
     for (most, found) in cases {
-        let heard = noisy(alloc, &file, most)?;
-        let ran = tuned(&rt, alloc, (BASE, ""), heard, false, ample(SUPER_FRAME))?;
-        assert!(rt; stands(&ran, found), "noise of {most}");
+        let disturbed = noisy(alloc, &file, most)?;
+        let is_so = leaves(&rt, alloc, ONE, (BASE, ""), &disturbed, room, found)?;
+        assert!(rt; is_so, "noise of {most}");
     }
     Ok(())
 }
@@ -273,7 +226,7 @@ type Span = (usize, usize);
 // Symbols 200 to 271 of the null super-frame of `BASE`, and its symbols 0 to 23 after them.
 fn late_nulls<R: Threads + Sync>(rt: &R, alloc: Global) -> Result<Vec<u8>, AllocError> {
     let cells = null_cells(rt, alloc, BASE, false)?;
-    heard(alloc, &cells, 200, FOLLOWING)
+    heard(alloc, &cells, SYMBOL, 200, FOLLOWING)
 }
 
 // These symbols of a file turned by a half: each part x of a cell becomes -1 - x.
@@ -303,10 +256,11 @@ fn wrong_votes(rt: HostRuntime) -> Result<(), Fail> {
         (((0, 20), (30, 40)), none),
         (((5, 6), (7, 8)), none),
     ];
+    let room = ample(SUPER_FRAME);
     for (spans, found) in cases {
         let file = turned(alloc, &nulls, spans)?;
-        let ran = tuned(&rt, alloc, (BASE, ""), file, false, ample(SUPER_FRAME))?;
-        assert!(rt; stands(&ran, found), "turned from {} and from {}", spans.0.0, spans.1.0);
+        let is_so = leaves(&rt, alloc, ONE, (BASE, ""), &file, room, found)?;
+        assert!(rt; is_so, "turned from {} and from {}", spans.0.0, spans.1.0);
     }
     Ok(())
 }
@@ -335,118 +289,51 @@ static LIMITS: [(&str, Found<'static>); 6] = [
 fn limits_of_symbols(rt: HostRuntime) -> Result<(), Fail> {
     let alloc = rt.alloc();
     let nulls = late_nulls(&rt, alloc)?;
+    let room = ample(SUPER_FRAME);
     for (limit, found) in &LIMITS {
-        let file = Vec::from_slice(alloc, &nulls)?;
-        let ran = tuned(&rt, alloc, (BASE, *limit), file, false, ample(SUPER_FRAME))?;
-        assert!(rt; stands(&ran, *found), "{}", limit);
+        let is_so = leaves(&rt, alloc, ONE, (BASE, *limit), &nulls, room, *found)?;
+        assert!(rt; is_so, "{}", limit);
     }
     Ok(())
 }
 
-/// A call that fails, and the expected result.
-type Fault<'a> = (Failing, Found<'a>);
-
-/// Those of one stream.
+/// Calls that fail, of one stream.
+#[rattlefmt::skip]
 static FAULTS: [Fault<'static>; 10] = [
-    (
-        Failing::Read(InPort::Settings, 1),
-        (5, "read fault\n", None, None),
-    ),
-    (
-        Failing::Attach(InPort::Cells, 1),
-        (5, "read fault\n", None, None),
-    ),
-    (
-        Failing::Read(InPort::Cells, 1),
-        (5, "read fault\n", None, None),
-    ),
-    (
-        Failing::Read(InPort::Cells, 73),
-        (5, "read fault\n", EMPTY, None),
-    ),
-    (
-        Failing::Read(InPort::Cells, 74),
-        (5, "tune at 4 frame 4\nread fault\n", EMPTY, None),
-    ),
-    (
-        Failing::Read(InPort::Cells, 97),
-        (5, "tune at 4 frame 4\nread fault\n", ALL_BUT_ONE, None),
-    ),
-    (
-        Failing::Create(OutPort::Hp, 1),
-        (6, "write fault\n", None, None),
-    ),
-    (
-        Failing::Write(OutPort::Hp, 1),
-        (6, "tune at 4 frame 4\nwrite fault\n", HALF, None),
-    ),
-    (
-        Failing::Write(OutPort::Report, 1),
-        (6, "tune at 4write fault\n", EMPTY, None),
-    ),
+    (Failing::Read(InPort::Settings, 1), (5, "read fault\n", None, None)),
+    (Failing::Attach(InPort::Cells, 1), (5, "read fault\n", None, None)),
+    (Failing::Read(InPort::Cells, 1), (5, "read fault\n", None, None)),
+    (Failing::Read(InPort::Cells, 73), (5, "read fault\n", EMPTY, None)),
+    (Failing::Read(InPort::Cells, 74), (5, "tune at 4 frame 4\nread fault\n", EMPTY, None)),
+    (Failing::Read(InPort::Cells, 97), (5, "tune at 4 frame 4\nread fault\n", ALL_BUT_ONE, None)),
+    (Failing::Create(OutPort::Hp, 1), (6, "write fault\n", None, None)),
+    (Failing::Write(OutPort::Hp, 1), (6, "tune at 4 frame 4\nwrite fault\n", HALF, None)),
+    (Failing::Write(OutPort::Report, 1), (6, "tune at 4write fault\n", EMPTY, None)),
     (Failing::Close(OutPort::Hp, 1), (6, CLOSED, PACKETS, None)),
 ];
 
 /// Those of a transmission of two streams at LP, whose first packet is output with the ninth symbol. The 13th gives the
 /// first of HP and two of LP, its sixth and its seventh.
+#[rattlefmt::skip]
 static FAULTS_OF_LP: [Fault<'static>; 4] = [
-    (
-        Failing::Create(OutPort::Lp, 1),
-        (6, "write fault\n", EMPTY, None),
-    ),
-    (
-        Failing::Write(OutPort::Lp, 1),
-        (6, "tune at 4 frame 4\nwrite fault\n", EMPTY, HALF),
-    ),
-    (
-        Failing::Write(OutPort::Lp, 5),
-        (
-            6,
-            "tune at 4 frame 4\nwrite fault\n",
-            Some((188, 2_061_598_505)),
-            Some((1_128, 2_307_759_734)),
-        ),
-    ),
-    (
-        Failing::Close(OutPort::Lp, 1),
-        (6, CLOSED_OF_TWO, PACKETS, Some((4_136, 3_451_673_862))),
-    ),
+    (Failing::Create(OutPort::Lp, 1), (6, "write fault\n", EMPTY, None)),
+    (Failing::Write(OutPort::Lp, 1), (6, "tune at 4 frame 4\nwrite fault\n", EMPTY, HALF)),
+    (Failing::Write(OutPort::Lp, 5), (6, "tune at 4 frame 4\nwrite fault\n", ONE_PACKET, SIX_PACKETS)),
+    (Failing::Close(OutPort::Lp, 1), (6, CLOSED_OF_TWO, PACKETS, Some((4_136, 3_451_673_862)))),
 ];
-
-// The index of the first call whose failure gives another result for this file.
-fn first_wrong<R: Threads + Sync>(
-    rt: &R,
-    alloc: Global,
-    file: &[u8],
-    two: bool,
-    faults: &[Fault<'_>],
-) -> Result<Option<usize>, AllocError> {
-    for (number, (call, found)) in faults.iter().enumerate() {
-        let conditions = Conditions {
-            failing: Some(*call),
-            ..ample(SUPER_FRAME)
-        };
-        let file = Vec::from_slice(alloc, file)?;
-        let ran = tuned(rt, alloc, (BASE, ""), file, two, conditions)?;
-        if !stands(&ran, *found) {
-            return Ok(Some(number));
-        }
-    }
-    Ok(None)
-}
 
 // One call of the station fails, before the place and after it. A failed write writes the first half of its bytes.
 #[test]
 fn faults_of_the_station(rt: HostRuntime) -> Result<(), Fail> {
     let alloc = rt.alloc();
     let nulls = late_nulls(&rt, alloc)?;
-    assert_eq!(rt; first_wrong(&rt, alloc, &nulls, false, &FAULTS)?, None);
+    let wrong = first_wrong(&rt, alloc, (ONE, BASE), &nulls, SUPER_FRAME, &FAULTS)?;
+    assert_eq!(rt; wrong, None);
     let cells = null_cells(&rt, alloc, LAYERED, true)?;
-    let layered = heard(alloc, &cells, 200, FOLLOWING)?;
-    assert_eq!(rt;
-        first_wrong(&rt, alloc, &layered, true, &FAULTS_OF_LP)?,
-        None
-    );
+    let layered = heard(alloc, &cells, SYMBOL, 200, FOLLOWING)?;
+    let run = (TWO, BASE);
+    let wrong = first_wrong(&rt, alloc, run, &layered, SUPER_FRAME, &FAULTS_OF_LP)?;
+    assert_eq!(rt; wrong, None);
     Ok(())
 }
 
@@ -472,11 +359,10 @@ static REFUSED: [(&str, &str, Found<'static>); 7] = [
 #[test]
 fn refused_words_and_settings(rt: HostRuntime) -> Result<(), Fail> {
     let alloc = rt.alloc();
+    let room = ample(SUPER_FRAME);
     for (words, line, found) in &REFUSED {
-        let settings = text_bytes(alloc, BASE, *line)?;
-        let none = (Vec::new(alloc), Vec::new(alloc));
-        let ran = run_files(&rt, alloc, *words, settings, none, 1, ample(SUPER_FRAME))?;
-        assert!(rt; stands(&ran, *found), "{} by {}", words, line);
+        let is_so = leaves(&rt, alloc, *words, (BASE, *line), &[], room, *found)?;
+        assert!(rt; is_so, "{} by {}", words, line);
     }
     Ok(())
 }
@@ -491,19 +377,20 @@ fn first_symbols(rt: HostRuntime) -> Result<(), Fail> {
     let header = (9, "cells header\n", None, None);
     let limit = (8, "limit 67\n", EMPTY, None);
     let cases = [
-        (BASE, 67, (BASE, ""), false, none),
-        (BASE, 68, (BASE, ""), false, (0, AT_ZERO, EMPTY, None)),
-        (BASE, 68, (BASE, ""), true, form_of_two),
-        (LAYERED, 68, (BASE, ""), false, form),
-        (LAYERED, 69, (BASE, "max_symbols = 68\n"), false, form),
-        (LAYERED, 69, (BASE, "max_symbols = 67\n"), false, limit),
-        (BASE, 68, (EIGHT, ""), false, header),
+        (BASE, 67, (BASE, ""), ONE, none),
+        (BASE, 68, (BASE, ""), ONE, (0, AT_ZERO, EMPTY, None)),
+        (BASE, 68, (BASE, ""), TWO, form_of_two),
+        (LAYERED, 68, (BASE, ""), ONE, form),
+        (LAYERED, 69, (BASE, "max_symbols = 68\n"), ONE, form),
+        (LAYERED, 69, (BASE, "max_symbols = 67\n"), ONE, limit),
+        (BASE, 68, (WIDE, ""), ONE, header),
     ];
-    for (sent, count, settings, two, found) in cases {
+    let room = ample(SUPER_FRAME);
+    for (sent, count, settings, words, found) in cases {
         let cells = null_cells(&rt, alloc, sent, sent == LAYERED)?;
-        let file = heard(alloc, &cells, 300, count)?;
-        let ran = tuned(&rt, alloc, settings, file, two, ample(SUPER_FRAME))?;
-        assert!(rt; stands(&ran, found), "{} symbols beside {}", count, found.1);
+        let file = heard(alloc, &cells, SYMBOL, 300, count)?;
+        let is_so = leaves(&rt, alloc, words, settings, &file, room, found)?;
+        assert!(rt; is_so, "{} symbols beside {}", count, found.1);
     }
     Ok(())
 }
@@ -516,11 +403,11 @@ const WIDE_RECEIVED: &str =
 #[test]
 fn symbols_of_the_8k_mode(rt: HostRuntime) -> Result<(), Fail> {
     let alloc = rt.alloc();
-    let cells = wide_null_cells(&rt, alloc, EIGHT)?;
-    let file = heard_in(alloc, &cells, WIDE_SYMBOL, 200, 9)?;
-    let ran = tuned(&rt, alloc, (EIGHT, ""), file, false, ample(SUPER_FRAME))?;
-    let packets = Some((4_136, 3_451_673_862));
-    assert!(rt; stands(&ran, (0, WIDE_RECEIVED, packets, None)));
+    let cells = wide_null_cells(&rt, alloc, WIDE)?;
+    let file = heard(alloc, &cells, WIDE_SYMBOL, 200, 9)?;
+    let found = (0, WIDE_RECEIVED, Some((4_136, 3_451_673_862)), None);
+    let room = ample(SUPER_FRAME);
+    assert!(rt; leaves(&rt, alloc, ONE, (WIDE, ""), &file, room, found)?);
     Ok(())
 }
 
@@ -528,17 +415,11 @@ fn symbols_of_the_8k_mode(rt: HostRuntime) -> Result<(), Fail> {
 #[test]
 fn packets_of_two_streams_for_one_file(rt: HostRuntime) -> Result<(), Fail> {
     let alloc = rt.alloc();
-    let inputs = (
-        File::Counted(100, 0).bytes(alloc)?,
-        File::Counted(200, 0).bytes(alloc)?,
-    );
-    let settings = text_bytes(alloc, LAYERED, "")?;
+    let cells = sent(&rt, alloc, (LAYERED, ""), (100, Some(200)), 1)?;
+    assert!(rt; cells.len() == SUPER_FRAME as usize);
+    let found = (11, "tune form\n", EMPTY, None);
     let room = ample(SUPER_FRAME);
-    let words = "modulate s a b cells";
-    let sent = run_files(&rt, alloc, words, settings, inputs, 1000, room)?;
-    assert!(rt; sent.status == 0 && sent.cells.len() == SUPER_FRAME as usize);
-    let ran = tuned(&rt, alloc, (BASE, ""), sent.cells, false, room)?;
-    assert!(rt; stands(&ran, (11, "tune form\n", EMPTY, None)));
+    assert!(rt; leaves(&rt, alloc, ONE, (BASE, ""), &cells, room, found)?);
     Ok(())
 }
 
@@ -549,8 +430,9 @@ fn cells_of_the_other_mode(rt: HostRuntime) -> Result<(), Fail> {
     let mut file = late_nulls(&rt, alloc)?;
     assert!(rt; file.len() == 8 + 96 * SYMBOL);
     file[5] = 1;
-    let ran = tuned(&rt, alloc, (EIGHT, ""), file, false, ample(SUPER_FRAME))?;
-    assert!(rt; stands(&ran, (10, "tune none\n", EMPTY, None)));
+    let found = (10, "tune none\n", EMPTY, None);
+    let room = ample(SUPER_FRAME);
+    assert!(rt; leaves(&rt, alloc, ONE, (WIDE, ""), &file, room, found)?);
     Ok(())
 }
 
@@ -558,19 +440,10 @@ fn cells_of_the_other_mode(rt: HostRuntime) -> Result<(), Fail> {
 #[test]
 fn second_super_frame(rt: HostRuntime) -> Result<(), Fail> {
     let alloc = rt.alloc();
-    let inputs = (File::Counted(300, 0).bytes(alloc)?, Vec::new(alloc));
-    let settings = text_bytes(alloc, BASE, "")?;
-    let sent = run_files(
-        &rt,
-        alloc,
-        "modulate s a cells",
-        settings,
-        inputs,
-        1000,
-        ample(2 * SUPER_FRAME),
-    )?;
-    let file = heard(alloc, &sent.cells, 10, 0)?;
-    let ran = tuned(&rt, alloc, (BASE, ""), file, false, ample(SUPER_FRAME))?;
+    let cells = sent(&rt, alloc, (BASE, ""), (300, None), 2)?;
+    let file = heard(alloc, &cells, SYMBOL, 10, 0)?;
+    let room = ample(SUPER_FRAME);
+    let ran = run_on_cells(&rt, alloc, ONE, (BASE, ""), &file, room)?;
     assert!(rt; ran.status == 0 && ran.report.as_slice() == SECOND.as_bytes());
     let packets = File::Counted(300, 193).bytes(alloc)?;
     assert!(rt; packets.len() >= 48_128);

@@ -1,7 +1,8 @@
-// The cells for receiving runs, and the results of a reception.
-use crate::files::{checksum, text_bytes};
-use crate::runs::{Ran, ample, run_files};
+// The cells for receiving runs.
+use crate::files::{File, text_bytes};
+use crate::runs::{ample, run_files};
 use std::alloc::{AllocError, Global};
+use std::process::Abort;
 use std::thread::Threads;
 use test_tools::next_number;
 
@@ -16,15 +17,6 @@ pub const SUPER_FRAME: u32 = 2_318_808;
 
 /// The bytes of a cell file of a super-frame of the 8K mode.
 pub const WIDE_SUPER_FRAME: u32 = 9_271_128;
-
-/// The content of an output: the number of bytes, and their sum. None if it was not created.
-pub type Held = Option<(usize, u32)>;
-
-/// The expected result: the status, the report, and the content of HP and LP.
-pub type Found<'a> = (u8, &'a str, Held, Held);
-
-/// An output that was created and is empty.
-pub const EMPTY: Held = Some((0, 0));
 
 // The cells of the super-frame of null packets with these settings, after their header, if these bytes suffice for it.
 fn null_cells_in<R: Threads + Sync>(
@@ -64,20 +56,47 @@ pub fn wide_null_cells<R: Threads + Sync>(
     null_cells_in(rt, alloc, settings, false, WIDE_SUPER_FRAME)
 }
 
-// The content of an output.
-fn held(is_made: bool, bytes: &[u8]) -> Held {
-    if is_made {
-        Some((bytes.len(), checksum(bytes)))
-    } else {
-        None
-    }
+/// The cells of a transmission of this number of packets with counting payloads, of one stream or of two, with these
+/// settings and the lines after them. The only error is lack of memory.
+pub fn sent<R: Abort + Threads + Sync>(
+    rt: &R,
+    alloc: Global,
+    settings: (&str, &str),
+    packets: (u32, Option<u32>),
+    super_frames: u32,
+) -> Result<Vec<u8>, AllocError> {
+    let hp = File::Counted(packets.0, 0).bytes(alloc)?;
+    let (words, lp) = match packets.1 {
+        Some(count) => (
+            "modulate s a b cells",
+            File::Counted(count, 0).bytes(alloc)?,
+        ),
+        None => ("modulate s a cells", Vec::new(alloc)),
+    };
+    let settings = text_bytes(alloc, settings.0, settings.1)?;
+    let room = ample(super_frames.min(9) * SUPER_FRAME);
+    let ran = run_files(rt, alloc, words, settings, (hp, lp), 1000, room)?;
+    assert!(rt; ran.status == 0);
+    Ok(ran.cells)
 }
 
-/// Whether this is the result, and no other output was created.
-pub fn stands(ran: &Ran, found: Found<'_>) -> bool {
-    let is_told = ran.status == found.0 && ran.report.as_slice() == found.1.as_bytes();
-    let is_held = held(ran.made.hp, &ran.hp) == found.2 && held(ran.made.lp, &ran.lp) == found.3;
-    is_told && is_held && !ran.made.cells && !ran.made.bytes
+/// The header of a file of cells, then its symbols from this one on, and the first ones of a super-frame that follows.
+/// `symbol` is the number of bytes of a symbol. The only error is lack of memory.
+pub fn heard(
+    alloc: Global,
+    cells: &[u8],
+    symbol: usize,
+    first: usize,
+    following: usize,
+) -> Result<Vec<u8>, AllocError> {
+    let mut bytes = Vec::new(alloc);
+    let symbol = symbol.min(WIDE_SYMBOL);
+    let begin = (8 + first.min(600) * symbol).min(cells.len());
+    let end = (8 + following.min(600) * symbol).min(cells.len());
+    bytes.extend_from_slice(&cells[..8.min(cells.len())])?;
+    bytes.extend_from_slice(&cells[begin..])?;
+    bytes.extend_from_slice(&cells[8.min(end)..end])?;
+    Ok(bytes)
 }
 
 // A part of a cell moved by a random number of at most this size, and limited to 16 bits.

@@ -6,6 +6,10 @@ use ts_packet::Packet;
 pub const BASE: &str =
     "mode = \"2k\"\nconstellation = \"qpsk\"\nrate_hp = \"1/2\"\nguard = \"1/32\"\n";
 
+/// QPSK at 1/2 in the 8K mode.
+pub const WIDE: &str =
+    "mode = \"8k\"\nconstellation = \"qpsk\"\nrate_hp = \"1/2\"\nguard = \"1/32\"\n";
+
 /// Two streams, of 1/2 and 3/4, in 16-QAM in the 2K mode.
 pub const LAYERED: &str =
     "mode = \"2k\"\nconstellation = \"16qam\"\nhierarchy = \"4\"\nrate_hp = \"1/2\"\nrate_lp = \"3/4\"\nguard = \"1/32\"\n";
@@ -76,13 +80,4 @@ pub fn text_bytes(alloc: Global, text: &str, more: &str) -> Result<Vec<u8>, Allo
     bytes.extend_from_slice(text.as_bytes())?;
     bytes.extend_from_slice(more.as_bytes())?;
     Ok(bytes)
-}
-
-/// The bytes as the digits of a number in base 31, modulo 2^32.
-pub fn checksum(bytes: &[u8]) -> u32 {
-    let mut sum = 0u32;
-    for byte in bytes {
-        sum = sum.wrapping_mul(31).wrapping_add(u32::from(*byte));
-    }
-    sum
 }

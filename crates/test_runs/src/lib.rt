@@ -7,12 +7,17 @@
 mod cells;
 mod files;
 mod meeting;
+mod receptions;
 mod runs;
 
 pub use cells::{
-    EMPTY, Found, Held, SUPER_FRAME, SYMBOL, WIDE_SUPER_FRAME, WIDE_SYMBOL, noisy, null_cells,
-    stands, wide_null_cells,
+    SUPER_FRAME, SYMBOL, WIDE_SUPER_FRAME, WIDE_SYMBOL, heard, noisy, null_cells, sent,
+    wide_null_cells,
 };
-pub use files::{BASE, File, LAYERED, WHOLE_NULLS, checksum, text_bytes};
+pub use files::{BASE, File, LAYERED, WHOLE_NULLS, WIDE, text_bytes};
 pub use meeting::{Flags, Meeting};
-pub use runs::{Conditions, Made, Ran, UNMADE, ample, run_files, run_gated_files, words_of};
+pub use receptions::{EMPTY, Fault, Found, Held, first_wrong, leaves, stands};
+pub use runs::{
+    Conditions, Made, Ran, UNMADE, ample, run_files, run_gated_files, run_on_cells, words_of,
+};
+pub use test_tools::checksum;

@@ -3,9 +3,11 @@ ghost use Rattle.std.specs.Prelude.{◌≡◌, ◌≤◌, None, IfOk, false};
 ghost use Rattle.station_core.specs.Meaning.{IsFresh};
 ghost use Rattle.station_core.specs.Memory.{memory_meaning};
 
+use crate::files::text_bytes;
 use dvbt_top::{Limits, run_gated, run_within};
 use station_core::{Failing, MemoryStation, OutPort};
 use std::alloc::{AllocError, Global};
+use std::process::Abort;
 use std::thread::Threads;
 use word_workers::Gate;
 
@@ -185,6 +187,22 @@ pub fn run_files<R: Threads + Sync>(
     let mut station = station_of(alloc, settings, inputs, conditions)?;
     let status = run_words(rt, alloc, &words, packets, &mut station);
     Ran::new(alloc, status, &station)
+}
+
+/// Runs these arguments with these settings and the lines after them, and with this file of cells. Reads return at
+/// least one byte. The only error is lack of memory.
+pub fn run_on_cells<R: Abort + Threads + Sync>(
+    rt: &R,
+    alloc: Global,
+    text: &str,
+    settings: (&str, &str),
+    cells: &[u8],
+    conditions: Conditions,
+) -> Result<Ran, AllocError> {
+    assert!(rt; conditions.most >= 1);
+    let settings = text_bytes(alloc, settings.0, settings.1)?;
+    let inputs = (Vec::from_slice(alloc, cells)?, Vec::new(alloc));
+    run_files(rt, alloc, text, settings, inputs, 1, conditions)
 }
 
 /// The same through this gate, with a limit of a thousand packets, in a station with the capacity for a super-frame of

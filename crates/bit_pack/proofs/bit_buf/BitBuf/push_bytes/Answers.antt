@@ -27,4 +27,4 @@ pub returns-then-self-bytes-clause-amount : goal.returns-then-self-bytes-clause-
 returns-then-self-bytes-clause-amount g c = ap length (bits g c) ∙ length-append c.args.self.now (bits_of_bytes c.args.bytes.now) ∙ ap (λ z. length c.args.self.now + z) (length-bits c.args.bytes.now)
 
 pub returns-else-self-eq0-clause-amount : goal.returns-else-self-eq0-clause-amount
-returns-else-self-eq0-clause-amount g c = ap length c.push_each.ensures ∙ length-append c.args.self.now (bits_of_bytes c.args.bytes.now) ∙ ap (λ z. length c.args.self.now + z) (length-bits c.args.bytes.now)
+returns-else-self-eq0-clause-amount g c = ap length c.push_shifted.ensures ∙ length-append c.args.self.now (bits_of_bytes c.args.bytes.now) ∙ ap (λ z. length c.args.self.now + z) (length-bits c.args.bytes.now)
