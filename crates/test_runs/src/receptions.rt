@@ -2,7 +2,6 @@
 use crate::runs::{Conditions, Ran, ample, run_on_cells};
 use station_core::Failing;
 use std::alloc::{AllocError, Global};
-use std::process::Abort;
 use std::thread::Threads;
 use test_tools::checksum;
 
@@ -36,7 +35,7 @@ pub fn stands(ran: &Ran, found: Found<'_>) -> bool {
 
 /// Whether these arguments with these settings and this file of cells have this result. The only error is lack of
 /// memory.
-pub fn leaves<R: Abort + Threads + Sync>(
+pub fn leaves<R: Threads + Sync>(
     rt: &R,
     alloc: Global,
     words: &str,
@@ -51,7 +50,7 @@ pub fn leaves<R: Abort + Threads + Sync>(
 
 /// The index of the first call whose failure gives another result for these arguments, these settings and this file of
 /// cells. Each output has room for these bytes. The only error is lack of memory.
-pub fn first_wrong<R: Abort + Threads + Sync>(
+pub fn first_wrong<R: Threads + Sync>(
     rt: &R,
     alloc: Global,
     (words, settings): (&str, &str),

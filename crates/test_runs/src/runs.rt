@@ -7,7 +7,6 @@ use crate::files::text_bytes;
 use dvbt_top::{Limits, run_gated, run_within};
 use station_core::{Failing, MemoryStation, OutPort};
 use std::alloc::{AllocError, Global};
-use std::process::Abort;
 use std::thread::Threads;
 use word_workers::Gate;
 
@@ -191,7 +190,7 @@ pub fn run_files<R: Threads + Sync>(
 
 /// Runs these arguments with these settings and the lines after them, and with this file of cells. Reads return at
 /// least one byte. The only error is lack of memory.
-pub fn run_on_cells<R: Abort + Threads + Sync>(
+pub fn run_on_cells<R: Threads + Sync>(
     rt: &R,
     alloc: Global,
     text: &str,
@@ -199,10 +198,13 @@ pub fn run_on_cells<R: Abort + Threads + Sync>(
     cells: &[u8],
     conditions: Conditions,
 ) -> Result<Ran, AllocError> {
-    assert!(rt; conditions.most >= 1);
     let settings = text_bytes(alloc, settings.0, settings.1)?;
     let inputs = (Vec::from_slice(alloc, cells)?, Vec::new(alloc));
-    run_files(rt, alloc, text, settings, inputs, 1, conditions)
+    let readable = Conditions {
+        most: conditions.most.max(1),
+        ..conditions
+    };
+    run_files(rt, alloc, text, settings, inputs, 1, readable)
 }
 
 /// The same through this gate, with a limit of a thousand packets, in a station with the capacity for a super-frame of

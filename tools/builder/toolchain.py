@@ -1,0 +1,31 @@
+"""The module behind `rt`, with the gate's conditions on a crate, and with sums that are computed once.
+
+`rt` sums a crate's sources once for each path down crates.txt, which takes half a minute for the uppermost crate alone. Run as a program it
+is `rt` itself: the words are those of `rt`, in the folder of a crate.
+"""
+import functools
+import importlib.machinery
+import importlib.util
+import os
+import shutil
+import sys
+
+
+def load(top=None):
+    """The module. With the folder of a repository its crates are held to the file HANDLES there, as `rt ci` does it."""
+    sys.dont_write_bytecode = True
+    path = os.path.realpath(shutil.which("rt") or sys.exit("rt is not on the PATH"))
+    loader = importlib.machinery.SourceFileLoader("rt", path)
+    module = importlib.util.module_from_spec(importlib.util.spec_from_loader("rt", loader))
+    module.__file__ = path
+    loader.exec_module(module)
+    for name in ("stamp", "below"):
+        setattr(module.rtlib.Crate, name, functools.cache(getattr(module.rtlib.Crate, name)))
+    if top:
+        module.Crate.allowed = module.handles_of(top)
+        module.rtlib.Crate = module.Crate
+    return module
+
+
+if __name__ == "__main__":
+    sys.exit(load().main(sys.argv[1:]))
