@@ -4,10 +4,10 @@ use Rattle.std.proofs.lemmas.Simd.{tops_compared, get_or-zip2, get_or-sel_l, len
 use Rattle.std.proofs.lemmas.List.{get_or-replicate}
 use Rattle.std.proofs.lemmas.Bool.{cases_Bool, ltb-true, ltb-false, leb-false, eqb-true}
 use Rattle.std.specs.Simd.Lanes.{zip2, sel_l, mask_l, top}
-use Rattle.std.specs.Prelude.{slice_index, max, IsFalse}
-use Rattle.acs_lanes.specs.Lanes16.{AreLanes, AreLowered, AreRoomy, joined}
+use Rattle.std.specs.Prelude.{slice_index, max, min, IsFalse}
+use Rattle.acs_lanes.specs.Lanes16.{AreClose, AreLanes, AreLowered, AreRoomy, joined}
 use Rattle.acs_lanes.proofs.Sums16.{less}
-use Rattle.acs_lanes.proofs.Quarters.{b_at, c_at, d_at, both_lanes}
+use Rattle.acs_lanes.proofs.Quarters.{a_at, b_at, c_at, d_at, both_lanes}
 
 -- ---- the higher one
 
@@ -37,6 +37,28 @@ module _ (xs ys : List ℕ) (lx : length xs ≡ 16) (ly : length ys ≡ 16) wher
       ∙ ap (λ b. cond b (get_or ys k 0) (get_or xs k 0)) (ap (λ z. get_or z k false) less_is ∙ get_or-zip2 ltb xs ys k 0 0 false (omega (arith, lx)) (omega (arith, ly)))
       ∙ higher_of (get_or xs k 0) (get_or ys k 0)
 
+-- ---- the lower one
+
+abbrev lowest : List ℕ → List ℕ → List ℕ
+lowest xs ys = sel_l (less xs ys) xs ys
+
+module _ (xs ys : List ℕ) (lx : length xs ≡ 16) (ly : length ys ≡ 16) where
+  pub lowest_len : length (lowest xs ys) ≡ 16
+  lowest_len = length-sel_l (less xs ys) xs ys (less_len xs ys lx ly ∙ sym lx) (less_len xs ys lx ly ∙ sym ly) ∙ less_len xs ys lx ly
+
+  lowest_of : (x y : ℕ) → cond (ltb x y) x y ≡ min x y
+  lowest_of x y = go (cases_Bool (ltb x y))
+    where
+      go : (ltb x y ≡ true) ⊎ (ltb x y ≡ false) → cond (ltb x y) x y ≡ min x y
+      go (inl h) = ap (λ b. cond b x y) h ∙ omega (arith, ltb-true x y h)
+      go (inr h) = ap (λ b. cond b x y) h ∙ omega (arith, ltb-false x y h)
+
+  pub lowest_at : (k : ℕ) → k < 16 → get_or (lowest xs ys) k 0 ≡ min (get_or xs k 0) (get_or ys k 0)
+  lowest_at k l =
+      get_or-sel_l (less xs ys) xs ys k 0 (omega (arith, less_len xs ys lx ly)) (omega (arith, lx)) (omega (arith, ly))
+      ∙ ap (λ b. cond b (get_or xs k 0) (get_or ys k 0)) (ap (λ z. get_or z k false) (less_is xs ys lx ly) ∙ get_or-zip2 ltb xs ys k 0 0 false (omega (arith, lx)) (omega (arith, ly)))
+      ∙ lowest_of (get_or xs k 0) (get_or ys k 0)
+
 -- ---- a lane that reaches a number
 
 none_set : (bs : List Bool) → mask_l bs ≡ 0 → (k : ℕ) → get_or bs k false ≡ false
@@ -46,19 +68,19 @@ none_set (false ∷ bs) h zero = refl
 none_set (false ∷ bs) h (suc k) = none_set bs (omega (arith, h)) k
 
 abbrev tops : List ℕ → List Bool
-tops xs = map (top 15) (zip2 (λ a b. cond (leb a b) 65535 0) (replicate 16 49156) xs)
+tops xs = map (top 15) (zip2 (λ a b. cond (leb a b) 65535 0) (replicate 16 32768) xs)
 
 module _ (xs : List ℕ) (lx : length xs ≡ 16) where
-  tops_is : tops xs ≡ zip2 leb (replicate 16 49156) xs
-  tops_is = tops_compared w16 leb (replicate 16 49156) xs
+  tops_is : tops xs ≡ zip2 leb (replicate 16 32768) xs
+  tops_is = tops_compared w16 leb (replicate 16 32768) xs
 
   tops_len : length (tops xs) ≡ 16
-  tops_len = ap length tops_is ∙ length-zip2 leb (replicate 16 49156) xs (sym lx) ∙ refl
+  tops_len = ap length tops_is ∙ length-zip2 leb (replicate 16 32768) xs (sym lx) ∙ refl
 
-  tops_at : (k : ℕ) → k < 16 → get_or (tops xs) k false ≡ leb 49156 (get_or xs k 0)
+  tops_at : (k : ℕ) → k < 16 → get_or (tops xs) k false ≡ leb 32768 (get_or xs k 0)
   tops_at k l =
-      ap (λ z. get_or z k false) tops_is ∙ get_or-zip2 leb (replicate 16 49156) xs k 0 0 false l (omega (arith, lx))
-      ∙ ap (λ z. leb z (get_or xs k 0)) (get_or-replicate 16 k 49156 0 l)
+      ap (λ z. get_or z k false) tops_is ∙ get_or-zip2 leb (replicate 16 32768) xs k 0 0 false l (omega (arith, lx))
+      ∙ ap (λ z. leb z (get_or xs k 0)) (get_or-replicate 16 k 32768 0 l)
 
   whole : mask_l (tops xs) % 2 ^ 64 ≡ mask_l (tops xs)
   whole = mask_l-mod (tops xs) 64 (omega (arith, tops_len))
@@ -70,17 +92,44 @@ module _ (xs : List ℕ) (lx : length xs ≡ 16) where
       go true e f = eqb-true n 0 e
       go false e f = absurd (true≢false f)
 
-  pub reaches_low : IsFalse (not (eqb (mask_l (tops xs) % 2 ^ 64) 0)) → (k : ℕ) → k < 16 → slice_index xs k < 49156
-  reaches_low t k l = leb-false 49156 (get_or xs k 0) (sym (tops_at k l) ∙ none_set (tops xs) (sym whole ∙ is_zero (mask_l (tops xs) % 2 ^ 64) t) k)
+  pub reaches_low : IsFalse (not (eqb (mask_l (tops xs) % 2 ^ 64) 0)) → (k : ℕ) → k < 16 → slice_index xs k < 32768
+  reaches_low t k l = leb-false 32768 (get_or xs k 0) (sym (tops_at k l) ∙ none_set (tops xs) (sym whole ∙ is_zero (mask_l (tops xs) % 2 ^ 64) t) k)
 
 -- of four vectors
 
 module _ (a b c d p q m : List ℕ) (o : AreLanes a b c d) (fp : (k : ℕ) → k < 16 → slice_index p k ≡ max (slice_index a k) (slice_index b k)) (fq : (k : ℕ) → k < 16 → slice_index q k ≡ max (slice_index c k) (slice_index d k))
     (fm : (k : ℕ) → k < 16 → slice_index m k ≡ max (slice_index p k) (slice_index q k)) where
-  pub all_low : ((k : ℕ) → k < 16 → slice_index m k < 49156) → (n : ℕ) → n < 64 → slice_index (joined a b c d) n < 49156
+  pub all_low : ((k : ℕ) → k < 16 → slice_index m k < 32768) → (n : ℕ) → n < 64 → slice_index (joined a b c d) n < 32768
   all_low h =
-      both_lanes (λ x y. x < 49156) a b c d a b c d o.a_len o.b_len o.c_len o.d_len o.a_len o.b_len o.c_len o.d_len
+      both_lanes (λ x y. x < 32768) a b c d a b c d o.a_len o.b_len o.c_len o.d_len o.a_len o.b_len o.c_len o.d_len
       (λ k l. omega (arith, h k l, fp k l, fm k l)) (λ k l. omega (arith, h k l, fp k l, fm k l)) (λ k l. omega (arith, h k l, fq k l, fm k l)) (λ k l. omega (arith, h k l, fq k l, fm k l))
+
+-- the least of four vectors
+
+module _ (a b c d p q m : List ℕ) (o : AreLanes a b c d) (fp : (k : ℕ) → k < 16 → slice_index p k ≡ min (slice_index a k) (slice_index b k)) (fq : (k : ℕ) → k < 16 → slice_index q k ≡ min (slice_index c k) (slice_index d k))
+    (fm : (k : ℕ) → k < 16 → slice_index m k ≡ min (slice_index p k) (slice_index q k)) where
+  pub all_above : (low : ℕ) → ((k : ℕ) → k < 16 → low ≤ slice_index m k) → (n : ℕ) → n < 64 → low ≤ slice_index (joined a b c d) n
+  all_above low h =
+      both_lanes (λ x y. low ≤ x) a b c d a b c d o.a_len o.b_len o.c_len o.d_len o.a_len o.b_len o.c_len o.d_len
+      (λ k l. omega (arith, h k l, fp k l, fm k l)) (λ k l. omega (arith, h k l, fp k l, fm k l)) (λ k l. omega (arith, h k l, fq k l, fm k l)) (λ k l. omega (arith, h k l, fq k l, fm k l))
+
+  pub all_close : (low k : ℕ) → k < 16 → slice_index m k ≡ low → AreClose (joined a b c d) → (n : ℕ) → n < 64 → slice_index (joined a b c d) n ≤ low + 49140
+  all_close low k l e h n ln =
+      omega (
+        arith,
+        e,
+        fm k l,
+        fp k l,
+        fq k l,
+        h n k ln (omega arith),
+        h n (16 + k) ln (omega arith),
+        h n (32 + k) ln (omega arith),
+        h n (48 + k) ln (omega arith),
+        a_at a b c d o.a_len o.b_len o.c_len o.d_len k l,
+        b_at a b c d o.a_len o.b_len o.c_len o.d_len k l,
+        c_at a b c d o.a_len o.b_len o.c_len o.d_len k l,
+        d_at a b c d o.a_len o.b_len o.c_len o.d_len k l,
+      )
 
 -- ---- less
 
@@ -116,7 +165,7 @@ roomy_is low old new f h = record {
 }
 
 -- lanes that are low stay as they are
-pub roomy_same : (old : List ℕ) → ((n : ℕ) → n < 64 → slice_index old n < 49156) → AreRoomy old old
+pub roomy_same : (old : List ℕ) → ((n : ℕ) → n < 64 → slice_index old n < 32768) → AreRoomy old old
 roomy_same old f = record {
   lowered = record { less = 0; is = λ n l. omega arith; few = λ n l. omega (arith, f n l) };
   room = λ n l. omega (arith, f n l);

@@ -1,18 +1,20 @@
 -- A word of the lanes that have no mark, in each phase.
-use Rattle.std.proofs.Common.{◌≡◌, ℕ, ◌+◌, ◌-◌, ◌*◌, ◌/◌, ◌%◌, ◌^◌, ◌<◌, Bool, true, false, cond, not, ◌&&◌, ◌||◌, List, ◌++◌, map, get_or, replicate, refl, sym, ap, ap₂, ◌∙◌, subst, arith, bit_and, bit_or, eqb, ltb, true≢false, w8, mod-lt}
-use Rattle.std.proofs.lemmas.Bool.{eqb-true}
+use Rattle.std.proofs.Common.{◌≡◌, ℕ, suc, ◌+◌, ◌-◌, ◌*◌, ◌/◌, ◌%◌, ◌^◌, ◌<◌, ◌≤◌, Bool, true, false, cond, not, ◌&&◌, List, ◌++◌, map, get_or, replicate, refl, sym, ap, ap₂, ◌∙◌, subst, arith, bit_and, bit_or, eqb, ltb, true≢false, w8, mod-lt}
+use Rattle.std.proofs.lemmas.Bool.{eqb-true, ltb-false}
 use Rattle.std.proofs.lemmas.List.{get_or_append_left}
 use Rattle.std.proofs.lemmas.Nat.Bits.{bit_at_cat_high}
 use Rattle.std.proofs.lemmas.Simd.{bitmask_splat, bit_mask_l, mask_l-lt}
 use Rattle.std.specs.Bool.{nat_lt}
 use Rattle.std.specs.Int.{bit_at}
+use Rattle.std.specs.Int.Bits.{bit_xor}
 use Rattle.std.specs.Prelude.{slice_index}
 use Rattle.std.specs.Simd.Lanes.{zip2, mask_l, number_l, top}
 use Rattle.code_paths.proofs.Registers.{all_below, all_below_at}
-use Rattle.code_paths.proofs.Words.{pow-pos, set_and, set_or, set_shl, whole}
-use Rattle.spec_words.specs.Bits.{is_set}
+use Rattle.code_paths.proofs.Words.{pow-pos, set_and, set_shl, whole}
+use Rattle.conv_code.proofs.Coding.{set_xor}
+use Rattle.spec_words.specs.Bits.{is_set, xor}
 use Rattle.acs_lanes.specs.Lanes16.{AreMarks}
-use Rattle.acs_lanes.specs.Phases.{byte_of, exchanged, ordered, way_in}
+use Rattle.acs_lanes.specs.Phases.{byte_of, exchanged, ordered, swapped, way_in}
 use Rattle.acs_lanes.proofs.LaneLaws.{set_low_word, set_high_word}
 use Rattle.acs_lanes.proofs.Laid.{at_range}
 use Rattle.acs_lanes.proofs.Marks.{below_half, byte_at, bytes, digits_long, holds_at, one}
@@ -62,59 +64,77 @@ set_down x s k =
     let f : bit_at (x / 2 ^ s * 2 ^ s + x % 2 ^ s) (k + s) ≡ bit_at (x / 2 ^ s) (k + s - s) = bit_at_cat_high (x / 2 ^ s) s (x % 2 ^ s) (k + s) (mod-lt x (pow-pos s)) (omega arith) in
     ap (λ z. eqb z 1) (sym (ap (bit_at (x / 2 ^ s)) e) ∙ sym f ∙ ap (λ z. bit_at z (k + s)) (whole x s))
 
-or_none : (a : Bool) → (a || false) ≡ a
-or_none true = refl
-or_none false = refl
-
 turned_and : (a b : Bool) → (a && b) ≡ (b && a)
 turned_and true true = refl
 turned_and true false = refl
 turned_and false true = refl
 turned_and false false = refl
 
--- one of three bits is taken, by masks: the one that stays, one from above, or one from below
-abbrev fits : ℕ → ℕ → ℕ → Bool → Bool → Bool → Bool → Bool
-fits to n s stays above low below = cond stays (cond above false (cond (not low && below) false (eqb to n))) (cond above (cond (not low && below) false (eqb to (n + s))) (cond (not low && below) (eqb to (n - s)) false))
+same : (a : Bool) → xor (xor a false) false ≡ a
+same true = refl
+same false = refl
 
-taken : (x to n s : ℕ) (stays above low below : Bool) → fits to n s stays above low below ≡ true
-    → ((stays && is_set x n || above && is_set x (n + s)) || (not low && (below && is_set x (n - s)))) ≡ is_set x to
-taken x to n s true true low below t = absurd (true≢false (sym t))
-taken x to n s true false true below t = or_none (is_set x n || false) ∙ or_none (is_set x n) ∙ ap (is_set x) (sym (eqb-true to n t))
-taken x to n s true false false true t = absurd (true≢false (sym t))
-taken x to n s true false false false t = or_none (is_set x n || false) ∙ or_none (is_set x n) ∙ ap (is_set x) (sym (eqb-true to n t))
-taken x to n s false true true below t = or_none (is_set x (n + s)) ∙ ap (is_set x) (sym (eqb-true to (n + s) t))
-taken x to n s false true false true t = absurd (true≢false (sym t))
-taken x to n s false true false false t = or_none (is_set x (n + s)) ∙ ap (is_set x) (sym (eqb-true to (n + s) t))
-taken x to n s false false true below t = absurd (true≢false (sym t))
-taken x to n s false false false true t = ap (is_set x) (sym (eqb-true to (n - s) t))
-taken x to n s false false false false t = absurd (true≢false (sym t))
+from_above : (a u : Bool) → xor (xor a (xor u a)) false ≡ u
+from_above true true = refl
+from_above true false = refl
+from_above false true = refl
+from_above false false = refl
 
-abbrev pub moved_by : ℕ → ℕ → ℕ → ℕ → ℕ
-moved_by s stays moves x = bit_or (bit_or (bit_and x stays) (bit_and (x / 2 ^ s) moves)) (bit_and x moves * 2 ^ s % 2 ^ 64)
+from_below : (a d : Bool) → xor (xor a false) (xor a d) ≡ d
+from_below true true = refl
+from_below true false = refl
+from_below false true = refl
+from_below false false = refl
 
-moved : (s stays moves : ℕ) (to : ℕ → ℕ) → all_below (λ n. fits (to n) n s (is_set stays n) (is_set moves n) (nat_lt n s) (is_set moves (n - s))) 64 ≡ true → (x n : ℕ) → n < 64 → is_set (moved_by s stays moves x) n ≡ is_set x (to n)
-moved s stays moves to t x n l =
-    set_or (bit_or (bit_and x stays) (bit_and (x / 2 ^ s) moves)) (bit_and x moves * 2 ^ s % 2 ^ 64) n
-    ∙ ap₂ (λ y z. y || z)
-    (set_or (bit_and x stays) (bit_and (x / 2 ^ s) moves) n
-    ∙ ap₂ (λ y z. y || z) (set_and x stays n ∙ turned_and (is_set x n) (is_set stays n)) (set_and (x / 2 ^ s) moves n ∙ turned_and (is_set (x / 2 ^ s) n) (is_set moves n) ∙ ap (λ z. is_set moves n && z) (set_down x s n)))
-    (set_shl (bit_and x moves) s n l ∙ ap (λ z. not (nat_lt n s) && z) (set_and x moves (n - s) ∙ turned_and (is_set x (n - s)) (is_set moves (n - s))))
-    ∙ taken x (to n) n s (is_set stays n) (is_set moves n) (nat_lt n s) (is_set moves (n - s)) (all_below_at (λ n. fits (to n) n s (is_set stays n) (is_set moves n) (nat_lt n s) (is_set moves (n - s))) 64 n t l)
+-- one of three bits is taken, by a mask: that from above, that from below, or the one that stays
+abbrev fits : ℕ → ℕ → ℕ → Bool → Bool → Bool → Bool
+fits to n s above low below = cond above (cond (not low && below) false (eqb to (n + s))) (cond (not low && below) (eqb to (n - s)) (eqb to n))
 
-pub moved_1 : (p x : ℕ) → p ≡ 1 → (n : ℕ) → n < 64 → is_set (moved_by 8 18374687579166474495 280375465148160 x) n ≡ is_set x (exchanged p n)
-moved_1 p x e = subst (λ p. (n : ℕ) → n < 64 → is_set (moved_by 8 18374687579166474495 280375465148160 x) n ≡ is_set x (exchanged p n)) (sym e) (moved 8 18374687579166474495 280375465148160 (exchanged 1) refl x)
+taken : (x to n s : ℕ) (above low below : Bool) → (low ≡ false → n - s + s ≡ n) → fits to n s above low below ≡ true
+    → xor (xor (is_set x n) (above && xor (is_set x (n + s)) (is_set x n))) (not low && (below && xor (is_set x (n - s + s)) (is_set x (n - s)))) ≡ is_set x to
+taken x to n s true true below e t = from_above (is_set x n) (is_set x (n + s)) ∙ ap (is_set x) (sym (eqb-true to (n + s) t))
+taken x to n s true false true e t = absurd (true≢false (sym t))
+taken x to n s true false false e t = from_above (is_set x n) (is_set x (n + s)) ∙ ap (is_set x) (sym (eqb-true to (n + s) t))
+taken x to n s false true below e t = same (is_set x n) ∙ ap (is_set x) (sym (eqb-true to n t))
+taken x to n s false false true e t =
+    ap (λ z. xor (xor (is_set x n) false) (xor (is_set x z) (is_set x (n - s)))) (e refl) ∙ from_below (is_set x n) (is_set x (n - s)) ∙ ap (is_set x) (sym (eqb-true to (n - s) t))
+taken x to n s false false false e t = same (is_set x n) ∙ ap (is_set x) (sym (eqb-true to n t))
 
-pub moved_2 : (p x : ℕ) → p ≡ 2 → (n : ℕ) → n < 64 → is_set (moved_by 12 17361393124654452495 264913582878960 x) n ≡ is_set x (exchanged p n)
-moved_2 p x e = subst (λ p. (n : ℕ) → n < 64 → is_set (moved_by 12 17361393124654452495 264913582878960 x) n ≡ is_set x (exchanged p n)) (sym e) (moved 12 17361393124654452495 264913582878960 (exchanged 2) refl x)
+-- where a word's bits differ from those so many places above them, of those in a mask
+abbrev pub differ : ℕ → ℕ → ℕ → ℕ
+differ s mask x = bit_and (bit_xor (x / 2 ^ s) x) mask
 
-pub moved_3 : (p x : ℕ) → p ≡ 3 → (n : ℕ) → n < 64 → is_set (moved_by 14 14757226376558555955 225176545447116 x) n ≡ is_set x (exchanged p n)
-moved_3 p x e = subst (λ p. (n : ℕ) → n < 64 → is_set (moved_by 14 14757226376558555955 225176545447116 x) n ≡ is_set x (exchanged p n)) (sym e) (moved 14 14757226376558555955 225176545447116 (exchanged 3) refl x)
+abbrev pub moved_by : ℕ → ℕ → ℕ → ℕ
+moved_by s mask x = bit_xor (bit_xor x (differ s mask x)) (differ s mask x * 2 ^ s % 2 ^ 64)
 
-pub moved_4 : (p x : ℕ) → p ≡ 4 → (n : ℕ) → n < 64 → is_set (moved_by 15 12297735558912431445 187647121205930 x) n ≡ is_set x (exchanged p n)
-moved_4 p x e = subst (λ p. (n : ℕ) → n < 64 → is_set (moved_by 15 12297735558912431445 187647121205930 x) n ≡ is_set x (exchanged p n)) (sym e) (moved 15 12297735558912431445 187647121205930 (exchanged 4) refl x)
+differ_at : (s mask x n : ℕ) → is_set (differ s mask x) n ≡ (is_set mask n && xor (is_set x (n + s)) (is_set x n))
+differ_at s mask x n =
+    set_and (bit_xor (x / 2 ^ s) x) mask n ∙ turned_and (is_set (bit_xor (x / 2 ^ s) x) n) (is_set mask n)
+    ∙ ap (λ z. is_set mask n && z) (set_xor (x / 2 ^ s) x n ∙ ap (λ z. xor z (is_set x n)) (set_down x s n))
 
-pub moved_5 : (p x : ℕ) → p ≡ 5 → (n : ℕ) → n < 64 → is_set (moved_by 15 12297735558912431445 187647121205930 x) n ≡ is_set x (exchanged p n)
-moved_5 p x e = subst (λ p. (n : ℕ) → n < 64 → is_set (moved_by 15 12297735558912431445 187647121205930 x) n ≡ is_set x (exchanged p n)) (sym e) (moved 15 12297735558912431445 187647121205930 (exchanged 5) refl x)
+not_below : (n s : ℕ) → nat_lt n s ≡ false → n - s + s ≡ n
+not_below n s h = omega (arith, ltb-false n s h)
+
+moved : (s mask : ℕ) (to : ℕ → ℕ) → all_below (λ n. fits (to n) n s (is_set mask n) (nat_lt n s) (is_set mask (n - s))) 64 ≡ true → (x n : ℕ) → n < 64 → is_set (moved_by s mask x) n ≡ is_set x (to n)
+moved s mask to t x n l =
+    set_xor (bit_xor x (differ s mask x)) (differ s mask x * 2 ^ s % 2 ^ 64) n
+    ∙ ap₂ xor (set_xor x (differ s mask x) n ∙ ap (xor (is_set x n)) (differ_at s mask x n))
+    (set_shl (differ s mask x) s n l ∙ ap (λ z. not (nat_lt n s) && z) (differ_at s mask x (n - s)))
+    ∙ taken x (to n) n s (is_set mask n) (nat_lt n s) (is_set mask (n - s)) (not_below n s) (all_below_at (λ n. fits (to n) n s (is_set mask n) (nat_lt n s) (is_set mask (n - s))) 64 n t l)
+
+pub moved_1 : (p x : ℕ) → p ≡ 1 → (n : ℕ) → n < 64 → is_set (moved_by 8 280375465148160 x) n ≡ is_set x (exchanged p n)
+moved_1 p x e = subst (λ p. (n : ℕ) → n < 64 → is_set (moved_by 8 280375465148160 x) n ≡ is_set x (exchanged p n)) (sym e) (moved 8 280375465148160 (exchanged 1) refl x)
+
+pub moved_2 : (p x : ℕ) → p ≡ 2 → (n : ℕ) → n < 64 → is_set (moved_by 12 264913582878960 x) n ≡ is_set x (exchanged p n)
+moved_2 p x e = subst (λ p. (n : ℕ) → n < 64 → is_set (moved_by 12 264913582878960 x) n ≡ is_set x (exchanged p n)) (sym e) (moved 12 264913582878960 (exchanged 2) refl x)
+
+pub moved_3 : (p x : ℕ) → p ≡ 3 → (n : ℕ) → n < 64 → is_set (moved_by 14 225176545447116 x) n ≡ is_set x (exchanged p n)
+moved_3 p x e = subst (λ p. (n : ℕ) → n < 64 → is_set (moved_by 14 225176545447116 x) n ≡ is_set x (exchanged p n)) (sym e) (moved 14 225176545447116 (exchanged 3) refl x)
+
+pub moved_4 : (p x : ℕ) → 4 ≤ p → (n : ℕ) → n < 64 → is_set (moved_by 15 187647121205930 x) n ≡ is_set x (exchanged p n)
+moved_4 p x l =
+    let e : suc (suc (suc (suc (p - 4)))) ≡ p = omega (arith, l) in
+    subst (λ p. (n : ℕ) → n < 64 → is_set (moved_by 15 187647121205930 x) n ≡ is_set x (exchanged p n)) e (moved 15 187647121205930 (swapped 0) refl x)
 
 -- bytes in the order of a phase
 pub ordered_as : (p q : ℕ) → p ≡ q → (xs bytes : List ℕ) → xs ≡ ordered q bytes → xs ≡ ordered p bytes

@@ -1,9 +1,8 @@
 // The 64 costs in lanes of 16 bits.
-ghost use Rattle.std.specs.Prelude.{◌≡◌, ◌≤◌, ◌<◌, ◌+◌, ◌%◌, ◌^◌, ℕ, IsFalse, max, length, slice_index};
+ghost use Rattle.std.specs.Prelude.{◌≡◌, ◌≤◌, ◌<◌, ◌+◌, ◌%◌, ◌^◌, ℕ, IsFalse, max, min, length, slice_index};
 ghost use Rattle.acs_lanes.specs.Lanes16.{AreLanes, AreLowered, AreRoomy, AreClose, joined, laid, place, state_at};
 
 use crate::lanes::write;
-use acs_plain::Sums;
 use std::simd::cmp::{SimdOrd, SimdPartialOrd};
 use std::simd::{u16x16, u32x16};
 
@@ -136,38 +135,61 @@ fn higher(x: u16x16, y: u16x16) -> u16x16
     x.simd_max(y)
 }
 
-/// Is some lane at least 49,156?
+/// Is some lane at least 32,768?
+// That is its highest bit, which takes one instruction.
 #[inline(always)]
 fn reaches(lanes: u16x16) -> bool
     requires { length lanes ≡ 16 }
-    ensures low { IsFalse result → (k : ℕ) → k < 16 → slice_index lanes k < 49156 }
+    ensures low { IsFalse result → (k : ℕ) → k < 16 → slice_index lanes k < 32768 }
 {
-    u16x16::splat(49156).simd_le(lanes).to_bitmask() != 0
+    u16x16::splat(32768).simd_le(lanes).to_bitmask() != 0
 }
 
 /// Is some lane so high that the greatest costs of two steps may not be added?
 #[inline(always)]
 fn is_high(lanes: Lanes) -> bool
-    ensures low { IsFalse result → (n : ℕ) → n < 64 → slice_index (joined lanes.a lanes.b lanes.c lanes.d) n < 49156 }
+    ensures low { IsFalse result → (n : ℕ) → n < 64 → slice_index (joined lanes.a lanes.b lanes.c lanes.d) n < 32768 }
 {
     reaches(higher(higher(lanes.a, lanes.b), higher(lanes.c, lanes.d)))
 }
 
+/// The lower one of each two lanes.
+#[inline(always)]
+fn lower(x: u16x16, y: u16x16) -> u16x16
+    requires x { length x ≡ 16 }
+    requires y { length y ≡ 16 }
+    ensures long { length result ≡ 16 }
+    ensures is { (k : ℕ) → k < 16 → slice_index result k ≡ min (slice_index x k) (slice_index y k) }
+{
+    x.simd_min(y)
+}
+
+/// The least of sixteen lanes.
+#[inline(always)]
+fn least_lane(lanes: u16x16) -> u16
+    requires { length lanes ≡ 16 }
+    ensures below { (k : ℕ) → k < 16 → result ≤ slice_index lanes k }
+    ensures attained { (k : ℕ) × (k < 16) × (slice_index lanes k ≡ result) }
+{
+    let all = lanes.to_array();
+    let mut low = all[0];
+    for k in 1..16usize {
+        if all[k] < low {
+            low = all[k];
+        }
+    }
+    low
+}
+
 /// The least cost in the lanes.
-// It is a call of its own, since it is seldom made. It gives a number, so that the lanes stay in registers where none
-// is made.
-#[inline(never)]
-fn least(lanes: Lanes) -> u32
+// No call that would send the lanes through memory, although it is seldom made: the lanes stay in registers.
+#[inline(always)]
+fn least(lanes: Lanes) -> u16
     ensures below { (n : ℕ) → n < 64 → result ≤ slice_index (joined lanes.a lanes.b lanes.c lanes.d) n }
     ensures close { AreClose (joined lanes.a lanes.b lanes.c lanes.d) → (n : ℕ) → n < 64
         → slice_index (joined lanes.a lanes.b lanes.c lanes.d) n ≤ result + 49140 }
-    ensures fits { result < 2 ^ 16 }
 {
-    let sums = Sums {
-        cost: all_lanes(lanes),
-        alive: u64::MAX,
-    };
-    sums.least()
+    least_lane(lower(lower(lanes.a, lanes.b), lower(lanes.c, lanes.d)))
 }
 
 /// Sixteen lanes less a number.
@@ -203,12 +225,11 @@ fn less_by_least(lanes: Lanes) -> Lanes
     requires { AreClose (joined lanes.a lanes.b lanes.c lanes.d) }
     ensures { AreRoomy (joined lanes.a lanes.b lanes.c lanes.d) (joined result.a result.b result.c result.d) }
 {
-    less_by(lanes, least(lanes) as u16)
+    less_by(lanes, least(lanes))
 }
 
 /// The lanes made such that the costs of two steps may be added.
-// Where one is at least 49,156 the least is taken from each, which leaves 49,140 at most, since they are that close;
-// and
+// If one is at least 32,768 the least is taken from each, which leaves 49,140 at most, since they are that close; and
 // 65,535 - 2 * 8,190 = 49,155.
 #[inline(always)]
 pub(crate) fn lowered(lanes: Lanes) -> Lanes

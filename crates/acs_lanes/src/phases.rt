@@ -101,8 +101,8 @@ fn ordered_in(phase: usize, bytes: u8x32) -> u8x32
 }
 
 /// The word with its bits in the order of states: the bit of a state's number that said which half of a vector it is in
-/// goes
-/// to its place.
+/// goes to its place.
+// Where the bits of the mask differ from those above them, both are turned over, which exchanges them.
 #[inline(always)]
 fn exchanged_in(phase: usize, word: u64) -> u64
     requires { phase < 6 }
@@ -111,25 +111,17 @@ fn exchanged_in(phase: usize, word: u64) -> u64
     if phase == 0 {
         word
     } else if phase == 1 {
-        (word & 0xFF00_00FF_FF00_00FF)
-            | (word >> 8 & 0x0000_FF00_0000_FF00)
-            | (word & 0x0000_FF00_0000_FF00) << 8
+        let differ = (word >> 8 ^ word) & 0x0000_FF00_0000_FF00;
+        word ^ differ ^ differ << 8
     } else if phase == 2 {
-        (word & 0xF0F0_0F0F_F0F0_0F0F)
-            | (word >> 12 & 0x0000_F0F0_0000_F0F0)
-            | (word & 0x0000_F0F0_0000_F0F0) << 12
+        let differ = (word >> 12 ^ word) & 0x0000_F0F0_0000_F0F0;
+        word ^ differ ^ differ << 12
     } else if phase == 3 {
-        (word & 0xCCCC_3333_CCCC_3333)
-            | (word >> 14 & 0x0000_CCCC_0000_CCCC)
-            | (word & 0x0000_CCCC_0000_CCCC) << 14
-    } else if phase == 4 {
-        (word & 0xAAAA_5555_AAAA_5555)
-            | (word >> 15 & 0x0000_AAAA_0000_AAAA)
-            | (word & 0x0000_AAAA_0000_AAAA) << 15
+        let differ = (word >> 14 ^ word) & 0x0000_CCCC_0000_CCCC;
+        word ^ differ ^ differ << 14
     } else {
-        (word & 0xAAAA_5555_AAAA_5555)
-            | (word >> 15 & 0x0000_AAAA_0000_AAAA)
-            | (word & 0x0000_AAAA_0000_AAAA) << 15
+        let differ = (word >> 15 ^ word) & 0x0000_AAAA_0000_AAAA;
+        word ^ differ ^ differ << 15
     }
 }
 
