@@ -1,5 +1,5 @@
 -- A word of the lanes that have no mark, in each phase.
-use Rattle.std.proofs.Common.{◌≡◌, ℕ, suc, ◌+◌, ◌-◌, ◌*◌, ◌/◌, ◌%◌, ◌^◌, ◌<◌, ◌≤◌, Bool, true, false, cond, not, ◌&&◌, List, ◌++◌, map, get_or, replicate, refl, sym, ap, ap₂, ◌∙◌, subst, arith, bit_and, bit_or, eqb, ltb, true≢false, w8, mod-lt}
+use Rattle.std.proofs.Common.{◌≡◌, ℕ, suc, ◌+◌, ◌-◌, ◌*◌, ◌/◌, ◌%◌, ◌^◌, ◌<◌, ◌≤◌, Bool, true, false, cond, not, ◌&&◌, List, ◌++◌, length, map, get_or, replicate, refl, sym, ap, ap₂, ◌∙◌, subst, arith, bit_and, bit_or, eqb, ltb, true≢false, w8, mod-lt}
 use Rattle.std.proofs.lemmas.Bool.{eqb-true, ltb-false}
 use Rattle.std.proofs.lemmas.List.{get_or_append_left}
 use Rattle.std.proofs.lemmas.Nat.Bits.{bit_at_cat_high}
@@ -8,16 +8,16 @@ use Rattle.std.specs.Bool.{nat_lt}
 use Rattle.std.specs.Int.{bit_at}
 use Rattle.std.specs.Int.Bits.{bit_xor}
 use Rattle.std.specs.Prelude.{slice_index}
-use Rattle.std.specs.Simd.Lanes.{zip2, mask_l, number_l, top}
+use Rattle.std.specs.Simd.Lanes.{zip2, mask_l, top}
 use Rattle.code_paths.proofs.Registers.{all_below, all_below_at}
 use Rattle.code_paths.proofs.Words.{pow-pos, set_and, set_shl, whole}
 use Rattle.conv_code.proofs.Coding.{set_xor}
 use Rattle.spec_words.specs.Bits.{is_set, xor}
 use Rattle.acs_lanes.specs.Lanes16.{AreMarks}
-use Rattle.acs_lanes.specs.Phases.{byte_of, exchanged, ordered, swapped, way_in}
+use Rattle.acs_lanes.specs.Phases.{by_halves, byte_of, exchanged, ordered, swapped, way_in}
 use Rattle.acs_lanes.proofs.LaneLaws.{set_low_word, set_high_word}
 use Rattle.acs_lanes.proofs.Laid.{at_range}
-use Rattle.acs_lanes.proofs.Marks.{below_half, byte_at, bytes, digits_long, holds_at, one}
+use Rattle.acs_lanes.proofs.Marks.{below_half, byte_at, holds_at, one}
 use Rattle.acs_lanes.proofs.PhaseTables.{exchanged_high, exchanged_small, exchanged_twice, way_in_small}
 
 -- ---- the word of two vectors
@@ -27,7 +27,7 @@ word_by xs = mask_l (map (top 7) (zip2 (λ a b. cond (ltb a b) 255 0) xs (replic
 
 module _ (p : ℕ) (in6 : p < 6) (first last : List ℕ) where
   abbrev inner : List ℕ
-  inner = ordered p (bytes first last)
+  inner = ordered p (by_halves first last)
 
   word_is : word_by inner ≡ mask_l (map (λ x. ltb x 128) inner)
   word_is = bitmask_splat w8 ltb inner 32 128 refl (omega arith)
@@ -43,9 +43,10 @@ module _ (p : ℕ) (in6 : p < 6) (first last : List ℕ) where
     inner_at k l =
         let w = way_in p (exchanged p k) in
         let s : w < 32 = way_in_small p in6 (exchanged p k) (exchanged_small p in6 k l) in
-        let b = bytes first last in
+        let b = by_halves first last in
+        let n : length b ≡ 32 = refl in
         at_range (λ i. slice_index (b ++ b) (byte_of (way_in p (exchanged p i)))) 32 k refl l
-        ∙ get_or_append_left b b 0 (byte_of w) (omega (arith, digits_long 32 (number_l 65536 (zip2 (λ a b. bit_or a b) first last)), s))
+        ∙ get_or_append_left b b 0 (byte_of w) (omega (arith, n, s))
         ∙ byte_at first last is_odd m w s
 
     half_at : (k : ℕ) → k < 32 → is_set (word_by inner) k ≡ is_odd (way_in p (exchanged p k))

@@ -137,7 +137,7 @@ lanes_fit a b c d la lb lc ld fa fb fc fd = record { a_len = la; b_len = lb; c_l
 -- ---- the step
 
 module _ (p : ℕ) (in6 : p < 6) (pair : CostPair) (oa ob oc od zf of zl ol lf ll hf hl lfm llm hfm hlm new : List ℕ) (word : ℕ) (o : AreLanes oa ob oc od) (s : AreCostsIn p pair zf of zl ol) (t : AreTurnedIn p lf ll hf hl new)
-    (plf : AreLesser oa zf oc of lf lfm 255) (pll : AreLesser ob zl od ol ll llm 65280) (phf : AreLesser oa of oc zf hf hfm 255) (phl : AreLesser ob ol od zl hl hlm 65280) where
+    (plf : AreLesser oa zf oc of lf lfm) (pll : AreLesser ob zl od ol ll llm) (phf : AreLesser oa of oc zf hf hfm) (phl : AreLesser ob ol od zl hl hlm) where
   even : (k : ℕ) → k < 32 → slice_index (oa ++ ob) (way_in p k) ≡ slice_index (laid_in p oa ob oc od) (2 * k)
   even k l = sym (laid_in_at p in6 oa ob oc od (2 * k) (omega arith) ∙ ap (slice_index (joined oa ob oc od)) (even_place p k) ∙ first_at oa ob oc od o.a_len o.b_len o.c_len o.d_len (way_in p k) (way_in_small p in6 k l))
 

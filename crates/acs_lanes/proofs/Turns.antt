@@ -47,7 +47,7 @@ module _ (a b c d : List ℕ) (o : AreLanes a b c d) (f : (n : ℕ) → n < 64 �
 
 -- ---- the lesser sums of two and two vectors
 
-module _ (e1 e2 o1 o2 z1 z2 n1 n2 t1 t2 m1 m2 : List ℕ) (le : length e1 ≡ 16) (lo : length o1 ≡ 16) (lz : length z1 ≡ 16) (ln : length n1 ≡ 16) (p : AreLesser e1 z1 o1 n1 t1 m1 255) (q : AreLesser e2 z2 o2 n2 t2 m2 65280) where
+module _ (e1 e2 o1 o2 z1 z2 n1 n2 t1 t2 m1 m2 : List ℕ) (le : length e1 ≡ 16) (lo : length o1 ≡ 16) (lz : length z1 ≡ 16) (ln : length n1 ≡ 16) (p : AreLesser e1 z1 o1 n1 t1 m1) (q : AreLesser e2 z2 o2 n2 t2 m2) where
   pub both_costs : (w : ℕ) → w < 32 → slice_index (t1 ++ t2) w ≡ min (slice_index (e1 ++ e2) w + slice_index (z1 ++ z2) w) (slice_index (o1 ++ o2) w + slice_index (n1 ++ n2) w)
   both_costs =
       by_two (λ w. slice_index (t1 ++ t2) w ≡ min (slice_index (e1 ++ e2) w + slice_index (z1 ++ z2) w) (slice_index (o1 ++ o2) w + slice_index (n1 ++ n2) w))
@@ -62,7 +62,7 @@ module _ (e1 e2 o1 o2 z1 z2 n1 n2 t1 t2 m1 m2 : List ℕ) (le : length e1 ≡ 16
     first_len = p.marks_len;
     last_len = q.marks_len;
     first_is = λ k l. p.marked k l ∙ ap (λ b. cond b 0 255) (sym (ap₂ nat_lt (ap₂ (λ x y. x + y) (in_first o1 o2 k lo l) (in_first n1 n2 k ln l)) (ap₂ (λ x y. x + y) (in_first e1 e2 k le l) (in_first z1 z2 k lz l))));
-    last_is = λ k l. q.marked k l ∙ ap (λ b. cond b 0 65280) (sym (ap₂ nat_lt (ap₂ (λ x y. x + y) (in_last o1 o2 k lo l) (in_last n1 n2 k ln l)) (ap₂ (λ x y. x + y) (in_last e1 e2 k le l) (in_last z1 z2 k lz l))));
+    last_is = λ k l. q.marked k l ∙ ap (λ b. cond b 0 255) (sym (ap₂ nat_lt (ap₂ (λ x y. x + y) (in_last o1 o2 k lo l) (in_last n1 n2 k ln l)) (ap₂ (λ x y. x + y) (in_last e1 e2 k le l) (in_last z1 z2 k lz l))));
   }
 
   pub both_fit : ((k : ℕ) → k < 16 → slice_index e1 k ≤ 57345) → ((k : ℕ) → k < 16 → slice_index e2 k ≤ 57345) → ((k : ℕ) → k < 16 → slice_index z1 k ≤ 8190) → ((k : ℕ) → k < 16 → slice_index z2 k ≤ 8190)
@@ -75,7 +75,7 @@ module _ (e1 e2 o1 o2 z1 z2 n1 n2 t1 t2 m1 m2 : List ℕ) (le : length e1 ≡ 16
 -- ---- the step
 
 module _ (pair : CostPair) (oa ob oc od zero one lf ll hf hl lfm llm hfm hlm new : List ℕ) (low high : ℕ) (o : AreLanes oa ob oc od) (s : AreLaidCosts pair zero one) (t : AreTurned lf ll hf hl new)
-    (plf : AreLesser oa zero oc one lf lfm 255) (pll : AreLesser ob one od zero ll llm 65280) (phf : AreLesser oa one oc zero hf hfm 255) (phl : AreLesser ob zero od one hl hlm 65280) where
+    (plf : AreLesser oa zero oc one lf lfm) (pll : AreLesser ob one od zero ll llm) (phf : AreLesser oa one oc zero hf hfm) (phl : AreLesser ob zero od one hl hlm) where
   even : (k : ℕ) → k < 32 → slice_index (oa ++ ob) (way k) ≡ slice_index (laid oa ob oc od) (2 * k)
   even k l = sym (laid_at oa ob oc od (2 * k) (omega arith) ∙ ap (slice_index (joined oa ob oc od)) (place_even k l) ∙ first_at oa ob oc od o.a_len o.b_len o.c_len o.d_len (way k) (way_small k l))
 

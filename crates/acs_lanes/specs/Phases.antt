@@ -81,9 +81,13 @@ exchanged (suc (suc zero)) n = swapped 2 n
 exchanged (suc (suc (suc zero))) n = swapped 1 n
 exchanged (suc (suc (suc (suc p)))) n = swapped 0 n
 
--- which byte has the mark of a lane, where those of two vectors lie side by side
+-- the marks of two vectors, in each half those of eight lanes of the first and then of the last
+abbrev pub by_halves : List ℕ → List ℕ → List ℕ
+by_halves x y = map (λ k. slice_index (x ++ y) (k / 16 * 8 + k % 8 + 16 * (k / 8 % 2))) (range_with_len 0 32)
+
+-- which byte has the mark of a lane there
 abbrev pub byte_of : ℕ → ℕ
-byte_of w = 2 * (w % 16) + w / 16
+byte_of w = 16 * (w / 8 % 2) + 8 * (w / 16) + w % 8
 
 -- bytes in the order of the words' bits
 abbrev pub ordered : ℕ → List ℕ → List ℕ

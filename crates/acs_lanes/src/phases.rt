@@ -3,14 +3,14 @@ ghost use Rattle.std.specs.Prelude.{◌≡◌, ◌≤◌, ◌<◌, ◌+◌, ◌*
 ghost use Rattle.spec_words.specs.Bits.{is_set};
 ghost use Rattle.code_paths.specs.declared.costs.CostPair.{CostPair as Pair};
 ghost use Rattle.acs_lanes.specs.Lanes16.{AreMarks};
-ghost use Rattle.acs_lanes.specs.Phases.{AreCostsIn, AreTurnedIn, all_sums, exchanged, laid_in, lower_eights};
+ghost use Rattle.acs_lanes.specs.Phases.{AreCostsIn, AreTurnedIn, all_sums, by_halves, exchanged, laid_in, lower_eights};
 ghost use Rattle.acs_lanes.specs.Phases.{lower_fours, next, ordered, upper_eights, upper_fours, way_in};
 
 use crate::lanes16::Lanes;
 use crate::step16::repeated;
 use conv_code::CostPair;
 use std::simd::cmp::SimdPartialOrd;
-use std::simd::{u8x32, u16x16};
+use std::simd::{u8x16, u8x32, u16x16};
 
 /// The sums of a cost of X and one of Y, by 2X + Y, four times.
 #[inline(always)]
@@ -69,33 +69,33 @@ fn ordered_in(phase: usize, bytes: u8x32) -> u8x32
 {
     if phase == 0 {
         bytes.swizzle([
-            0, 8, 4, 12, 2, 10, 6, 14, 1, 9, 5, 13, 3, 11, 7, 15, 16, 24, 20, 28, 18, 26, 22, 30,
-            17, 25, 21, 29, 19, 27, 23, 31,
+            0, 4, 2, 6, 1, 5, 3, 7, 8, 12, 10, 14, 9, 13, 11, 15, 16, 20, 18, 22, 17, 21, 19, 23,
+            24, 28, 26, 30, 25, 29, 27, 31,
         ])
     } else if phase == 1 {
         bytes.swizzle([
-            0, 8, 4, 12, 1, 9, 5, 13, 2, 10, 6, 14, 3, 11, 7, 15, 16, 24, 20, 28, 17, 25, 21, 29,
-            18, 26, 22, 30, 19, 27, 23, 31,
+            0, 4, 2, 6, 8, 12, 10, 14, 1, 5, 3, 7, 9, 13, 11, 15, 16, 20, 18, 22, 24, 28, 26, 30,
+            17, 21, 19, 23, 25, 29, 27, 31,
         ])
     } else if phase == 2 {
         bytes.swizzle([
-            0, 8, 1, 9, 2, 10, 3, 11, 4, 12, 5, 13, 6, 14, 7, 15, 16, 24, 17, 25, 18, 26, 19, 27,
-            20, 28, 21, 29, 22, 30, 23, 31,
+            0, 4, 8, 12, 1, 5, 9, 13, 2, 6, 10, 14, 3, 7, 11, 15, 16, 20, 24, 28, 17, 21, 25, 29,
+            18, 22, 26, 30, 19, 23, 27, 31,
         ])
     } else if phase == 3 {
         bytes.swizzle([
-            0, 1, 2, 3, 8, 9, 10, 11, 4, 5, 6, 7, 12, 13, 14, 15, 16, 17, 18, 19, 24, 25, 26, 27,
-            20, 21, 22, 23, 28, 29, 30, 31,
+            0, 8, 1, 9, 4, 12, 5, 13, 2, 10, 3, 11, 6, 14, 7, 15, 16, 24, 17, 25, 20, 28, 21, 29,
+            18, 26, 19, 27, 22, 30, 23, 31,
         ])
     } else if phase == 4 {
         bytes.swizzle([
-            0, 2, 1, 3, 8, 10, 9, 11, 4, 6, 5, 7, 12, 14, 13, 15, 16, 18, 17, 19, 24, 26, 25, 27,
-            20, 22, 21, 23, 28, 30, 29, 31,
+            0, 1, 8, 9, 4, 5, 12, 13, 2, 3, 10, 11, 6, 7, 14, 15, 16, 17, 24, 25, 20, 21, 28, 29,
+            18, 19, 26, 27, 22, 23, 30, 31,
         ])
     } else {
         bytes.swizzle([
-            0, 1, 8, 9, 4, 5, 12, 13, 2, 3, 10, 11, 6, 7, 14, 15, 16, 17, 24, 25, 20, 21, 28, 29,
-            18, 19, 26, 27, 22, 23, 30, 31,
+            0, 8, 4, 12, 2, 10, 6, 14, 1, 9, 5, 13, 3, 11, 7, 15, 16, 24, 20, 28, 18, 26, 22, 30,
+            17, 25, 21, 29, 19, 27, 23, 31,
         ])
     }
 }
@@ -125,15 +125,30 @@ fn exchanged_in(phase: usize, word: u64) -> u64
     }
 }
 
+/// The marks of two vectors, in each half those of eight lanes of the first and then of the last.
+// As one instruction makes bytes of the lanes of two vectors.
+#[inline(always)]
+fn by_halves(first: u8x16, last: u8x16) -> u8x32
+    ensures { result ≡ by_halves first last }
+{
+    first.shuffle(
+        last,
+        [
+            0, 1, 2, 3, 4, 5, 6, 7, 16, 17, 18, 19, 20, 21, 22, 23, 8, 9, 10, 11, 12, 13, 14, 15,
+            24, 25, 26, 27, 28, 29, 30, 31,
+        ],
+    )
+}
+
 /// The word of the lanes of two vectors that have no mark.
 #[inline(always)]
-fn half_word(phase: usize, first: u16x16, last: u16x16) -> u64
+pub(crate) fn half_word(phase: usize, first: u8x16, last: u8x16) -> u64
     requires { phase < 6 }
     ensures small { result < 2 ^ 32 }
     ensures bits { (is_odd : ℕ → Bool) → AreMarks first last is_odd → (k : ℕ) → k < 32 → is_set result k
         ≡ is_odd (way_in phase (exchanged phase k)) }
 {
-    let bytes = ordered_in(phase, (first | last).to_le_bytes());
+    let bytes = ordered_in(phase, by_halves(first, last));
     bytes.simd_lt(u8x32::splat(128)).to_bitmask()
 }
 
@@ -141,10 +156,10 @@ fn half_word(phase: usize, first: u16x16, last: u16x16) -> u64
 #[inline(always)]
 pub(crate) fn word_in(
     phase: usize,
-    low_first: u16x16,
-    low_last: u16x16,
-    high_first: u16x16,
-    high_last: u16x16,
+    low_first: u8x16,
+    low_last: u8x16,
+    high_first: u8x16,
+    high_last: u8x16,
 ) -> u64
     requires { phase < 6 }
     ensures low { (is_odd : ℕ → Bool) → AreMarks low_first low_last is_odd → (k : ℕ) → k < 32 → is_set result k

@@ -20,10 +20,10 @@ fn step_in(phase: usize, old: Lanes, pair: CostPair) -> (Lanes, u64)
         (laid_in (next phase) result.0.a result.0.b result.0.c result.0.d) result.1 }
 {
     let (zero_first, one_first, zero_last, one_last) = costs_in(phase, all_sums(pair));
-    let (low_first, low_first_even) = pick(old.a, zero_first, old.c, one_first, 0x00FF);
-    let (high_first, high_first_even) = pick(old.a, one_first, old.c, zero_first, 0x00FF);
-    let (low_last, low_last_even) = pick(old.b, zero_last, old.d, one_last, 0xFF00);
-    let (high_last, high_last_even) = pick(old.b, one_last, old.d, zero_last, 0xFF00);
+    let (low_first, low_first_even) = pick(old.a, zero_first, old.c, one_first);
+    let (high_first, high_first_even) = pick(old.a, one_first, old.c, zero_first);
+    let (low_last, low_last_even) = pick(old.b, zero_last, old.d, one_last);
+    let (high_last, high_last_even) = pick(old.b, one_last, old.d, zero_last);
     (
         turned_in(phase, low_first, low_last, high_first, high_last),
         word_in(

@@ -1,14 +1,14 @@
 // A step over the lanes.
-ghost use Rattle.std.specs.Prelude.{◌≡◌, ◌≤◌, ◌<◌, ◌^◌, ◌++◌, ℕ, Bool, slice_index};
-ghost use Rattle.spec_words.specs.Bits.{is_set};
+ghost use Rattle.std.specs.Prelude.{◌≡◌, ◌≤◌, ◌<◌, ◌^◌, ◌++◌, ℕ, slice_index};
 ghost use Rattle.acs_lanes.specs.Lanes.{IsLaneStep};
-ghost use Rattle.acs_lanes.specs.Lanes16.{AddFits, AreLaidCosts, AreLesser, AreMarks, AreTurned, joined, laid};
+ghost use Rattle.acs_lanes.specs.Lanes16.{AddFits, AreLaidCosts, AreLesser, AreTurned, joined, laid};
 ghost use Rattle.acs_lanes.specs.Lanes16.{repeated, way};
 
 use crate::lanes16::Lanes;
+use crate::phases::half_word;
 use conv_code::CostPair;
-use std::simd::cmp::{SimdOrd, SimdPartialEq, SimdPartialOrd};
-use std::simd::{u8x32, u16x16, u64x4};
+use std::simd::cmp::{SimdOrd, SimdPartialEq};
+use std::simd::{u8x16, u16x16, u64x4};
 
 /// The four costs of a pair, four times.
 // As one word of 64 bits they are read into all lanes at once.
@@ -35,39 +35,32 @@ fn step_costs(pair: CostPair) -> (u16x16, u16x16)
     (zero, one)
 }
 
+/// Lanes of small numbers as bytes.
+#[inline(always)]
+fn bytes_of(lanes: u16x16) -> u8x16
+    requires { (k : ℕ) → k < 16 → slice_index lanes k < 256 }
+    ensures { result ≡ lanes }
+{
+    lanes.cast()
+}
+
 /// The lesser sum of each lane, and a mark where it is that of the even state.
 pub(crate) fn pick(
     even: u16x16,
     even_step: u16x16,
     odd: u16x16,
     odd_step: u16x16,
-    mark: u16,
-) -> (u16x16, u16x16)
+) -> (u16x16, u8x16)
     requires lens { AddFits even even_step }
     requires odd_lens { AddFits odd odd_step }
-    ensures { AreLesser even even_step odd odd_step result.0 result.1 mark }
+    ensures { AreLesser even even_step odd odd_step result.0 result.1 }
 {
     let evens = even + even_step;
     let least = (odd + odd_step).simd_min(evens);
     let marks = least
         .simd_eq(evens)
-        .select(u16x16::splat(mark), u16x16::splat(0));
-    (least, marks)
-}
-
-/// The word of the lanes of two vectors that have no mark, in the order of states.
-// The marks lie side by side in bytes, so that the bytes of each half of a vector are put in order by one instruction.
-fn word_of(first: u16x16, last: u16x16) -> u64
-    ensures small { result < 2 ^ 32 }
-    ensures bits { (is_odd : ℕ → Bool) → AreMarks first last is_odd → (k : ℕ) → k < 32 → is_set result k
-        ≡ is_odd (way k) }
-{
-    let bytes = (first | last).to_le_bytes();
-    let ordered = bytes.swizzle([
-        0, 8, 4, 12, 2, 10, 6, 14, 1, 9, 5, 13, 3, 11, 7, 15, 16, 24, 20, 28, 18, 26, 22, 30, 17,
-        25, 21, 29, 19, 27, 23, 31,
-    ]);
-    ordered.simd_lt(u8x32::splat(128)).to_bitmask()
+        .select(u16x16::splat(255), u16x16::splat(0));
+    (least, bytes_of(marks))
 }
 
 /// The new costs of the states below 32 and of the others, each of which two vectors hold where the ways lead, as
@@ -120,13 +113,13 @@ pub(crate) fn step(old: Lanes, pair: CostPair) -> (Lanes, u64, u64)
         result.1 result.2 }
 {
     let (zero, one) = step_costs(pair);
-    let (low_first, low_first_even) = pick(old.a, zero, old.c, one, 0x00FF);
-    let (high_first, high_first_even) = pick(old.a, one, old.c, zero, 0x00FF);
-    let (low_last, low_last_even) = pick(old.b, one, old.d, zero, 0xFF00);
-    let (high_last, high_last_even) = pick(old.b, zero, old.d, one, 0xFF00);
+    let (low_first, low_first_even) = pick(old.a, zero, old.c, one);
+    let (high_first, high_first_even) = pick(old.a, one, old.c, zero);
+    let (low_last, low_last_even) = pick(old.b, one, old.d, zero);
+    let (high_last, high_last_even) = pick(old.b, zero, old.d, one);
     (
         turned(low_first, low_last, high_first, high_last),
-        word_of(low_first_even, low_last_even),
-        word_of(high_first_even, high_last_even),
+        half_word(0, low_first_even, low_last_even),
+        half_word(0, high_first_even, high_last_even),
     )
 }

@@ -37,7 +37,7 @@ returns c =
     let s = c.step_costs.ensures in
     record {
       step =
-          turned_step c.args.pair c.args.old.a c.args.old.b c.args.old.c c.args.old.d _ _ _ _ _ _ _ _ _ _ _ _ _ o s c.turned.ensures c.pick.ensures c.pick-3.ensures c.pick-2.ensures c.pick-4.ensures c.word_of.ensures.small
-          (c.word_of.ensures.bits _ (both_marks _ _ _ _ _ _ _ _ _ _ _ _ o.a_len o.c_len s.zero_len s.one_len c.pick.ensures c.pick-3.ensures))
-          (c.word_of-2.ensures.bits _ (both_marks _ _ _ _ _ _ _ _ _ _ _ _ o.a_len o.c_len s.one_len s.zero_len c.pick-2.ensures c.pick-4.ensures));
+          turned_step c.args.pair c.args.old.a c.args.old.b c.args.old.c c.args.old.d _ _ _ _ _ _ _ _ _ _ _ _ _ o s c.turned.ensures c.pick.ensures c.pick-3.ensures c.pick-2.ensures c.pick-4.ensures c.half_word.ensures.small
+          (c.half_word.ensures.bits _ (both_marks _ _ _ _ _ _ _ _ _ _ _ _ o.a_len o.c_len s.zero_len s.one_len c.pick.ensures c.pick-3.ensures))
+          (c.half_word-2.ensures.bits _ (both_marks _ _ _ _ _ _ _ _ _ _ _ _ o.a_len o.c_len s.one_len s.zero_len c.pick-2.ensures c.pick-4.ensures));
     }
