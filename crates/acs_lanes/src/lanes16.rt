@@ -145,7 +145,7 @@ fn reaches(lanes: u16x16) -> bool
     u16x16::splat(32768).simd_le(lanes).to_bitmask() != 0
 }
 
-/// Is some lane so high that the greatest costs of two steps may not be added?
+/// Is some lane so high that the greatest costs of two steps might not fit?
 #[inline(always)]
 fn is_high(lanes: Lanes) -> bool
     ensures low { IsFalse result → (n : ℕ) → n < 64 → slice_index (joined lanes.a lanes.b lanes.c lanes.d) n < 32768 }
