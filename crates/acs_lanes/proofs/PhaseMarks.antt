@@ -1,8 +1,8 @@
 -- A word of the lanes that have no mark, in each phase.
-use Rattle.std.proofs.Common.{◌≡◌, ℕ, suc, ◌+◌, ◌-◌, ◌*◌, ◌/◌, ◌%◌, ◌^◌, ◌<◌, ◌≤◌, Bool, true, false, cond, not, ◌&&◌, List, ◌++◌, length, map, get_or, replicate, refl, sym, ap, ap₂, ◌∙◌, subst, arith, bit_and, bit_or, eqb, ltb, true≢false, w8, mod-lt}
+use Rattle.std.proofs.Common.{◌≡◌, ℕ, zero, suc, ◌+◌, ◌-◌, ◌*◌, ◌/◌, ◌%◌, ◌^◌, ◌<◌, ◌≤◌, Bool, true, false, cond, not, ◌&&◌, List, ◌++◌, length, map, get_or, replicate, refl, sym, ap, ap₂, ◌∙◌, subst, arith, bit_and, bit_or, eqb, ltb, true≢false, w8, mod-lt}
 use Rattle.std.proofs.lemmas.Bool.{eqb-true, ltb-false}
 use Rattle.std.proofs.lemmas.List.{get_or_append_left}
-use Rattle.std.proofs.lemmas.Nat.Bits.{bit_at_cat_high}
+use Rattle.std.proofs.lemmas.Nat.Bits.{bit_at_cat_high, bit_at_xor, bit_at-lt}
 use Rattle.std.proofs.lemmas.Simd.{bitmask_splat, bit_mask_l, mask_l-lt}
 use Rattle.std.specs.Bool.{nat_lt}
 use Rattle.std.specs.Int.{bit_at}
@@ -11,7 +11,6 @@ use Rattle.std.specs.Prelude.{slice_index}
 use Rattle.std.specs.Simd.Lanes.{zip2, mask_l, top}
 use Rattle.code_paths.proofs.Registers.{all_below, all_below_at}
 use Rattle.code_paths.proofs.Words.{pow-pos, set_and, set_shl, whole}
-use Rattle.conv_code.proofs.Coding.{set_xor}
 use Rattle.spec_words.specs.Bits.{is_set, xor}
 use Rattle.acs_lanes.specs.Lanes16.{AreMarks}
 use Rattle.acs_lanes.specs.Phases.{by_halves, byte_of, exchanged, ordered, swapped, way_in}
@@ -64,6 +63,17 @@ set_down x s k =
     let e : k + s - s ≡ k = omega arith in
     let f : bit_at (x / 2 ^ s * 2 ^ s + x % 2 ^ s) (k + s) ≡ bit_at (x / 2 ^ s) (k + s - s) = bit_at_cat_high (x / 2 ^ s) s (x % 2 ^ s) (k + s) (mod-lt x (pow-pos s)) (omega arith) in
     ap (λ z. eqb z 1) (sym (ap (bit_at (x / 2 ^ s)) e) ∙ sym f ∙ ap (λ z. bit_at z (k + s)) (whole x s))
+
+sum_of_bits : (x y : ℕ) → x < 2 → y < 2 → eqb ((x + y) % 2) 1 ≡ xor (eqb x 1) (eqb y 1)
+sum_of_bits zero zero h k = refl
+sum_of_bits zero (suc zero) h k = refl
+sum_of_bits (suc zero) zero h k = refl
+sum_of_bits (suc zero) (suc zero) h k = refl
+sum_of_bits (suc (suc x)) y h k = absurd (omega arith)
+sum_of_bits x (suc (suc y)) h k = absurd (omega arith)
+
+set_xor : (a b k : ℕ) → is_set (bit_xor a b) k ≡ xor (is_set a k) (is_set b k)
+set_xor a b k = ap (λ z. eqb z 1) (bit_at_xor a b k) ∙ sum_of_bits (bit_at a k) (bit_at b k) (bit_at-lt a k) (bit_at-lt b k)
 
 turned_and : (a b : Bool) → (a && b) ≡ (b && a)
 turned_and true true = refl

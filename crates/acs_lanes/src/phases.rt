@@ -3,8 +3,8 @@ ghost use Rattle.std.specs.Prelude.{◌≡◌, ◌≤◌, ◌<◌, ◌+◌, ◌*
 ghost use Rattle.spec_words.specs.Bits.{is_set};
 ghost use Rattle.code_paths.specs.declared.costs.CostPair.{CostPair as Pair};
 ghost use Rattle.acs_lanes.specs.Lanes16.{AreMarks};
-ghost use Rattle.acs_lanes.specs.Phases.{AreCostsIn, AreTurnedIn, all_sums, by_halves, exchanged, laid_in, lower_eights};
-ghost use Rattle.acs_lanes.specs.Phases.{lower_fours, next, ordered, upper_eights, upper_fours, way_in};
+ghost use Rattle.acs_lanes.specs.Phases.{AreCostsIn, AreTurnedIn, all_sums, by_halves, exchanged, laid_in};
+ghost use Rattle.acs_lanes.specs.Phases.{lower_eights, lower_fours, next, ordered, upper_eights, upper_fours, way_in};
 
 use crate::lanes16::Lanes;
 use crate::step16::repeated;
