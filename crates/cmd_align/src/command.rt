@@ -1,13 +1,11 @@
 // The command.
-ghost use Rattle.std.specs.Prelude.{◌≡◌, [], length, Some};
-ghost use Rattle.frame_build.specs.CellFile.{header as header_of};
-ghost use Rattle.reception.specs.Cells.{symbol_length};
+ghost use Rattle.std.specs.Prelude.{◌≡◌};
 ghost use Rattle.station_core.specs.Meaning.{IsFresh};
 ghost use Rattle.cmd_base.specs.Run.{Run};
 ghost use Rattle.cmd_base.specs.Ports.{cell_names};
-ghost use Rattle.cmd_cells.specs.Runs.{IsReady, RunsCells};
+ghost use Rattle.cmd_cells.specs.Runs.{IsReady};
 ghost use Rattle.cmd_align.specs.AlignCommand.{align_command};
-ghost use Rattle.cmd_align.specs.Working.{RunsOrLacks, aligning_work};
+ghost use Rattle.cmd_align.specs.Working.{RunsOrLacks};
 
 use crate::aligning_work::AligningWork;
 use crate::copying::Copying;
@@ -17,41 +15,7 @@ use frame_build::header;
 use mode_set::{Carriers, Mode, Mode2k, Mode8k, Settings};
 use station_core::Station;
 use std::alloc::Global;
-use tune_search::{PlaceSearch, Search};
-
-// Runs the work with a search that has had no byte. `symbol` has the size of a symbol.
-fn align_by<'a, T: PlaceSearch + Drop, S: Station<'a>>(
-    search: T,
-    settings: &Settings,
-    symbol: &mut [u8],
-    old_cells: &'a str,
-    new_cells: &'a str,
-    station: &mut S,
-) -> u8
-    requires search { T.stands search settings.now [] }
-    requires mode { settings.now.mode ≡ T.mode }
-    requires size { length symbol.old ≡ symbol_length settings.now }
-    requires ready { IsReady (cell_names new_cells.now) (S.meaning station.old) }
-    ensures { RunsCells (aligning_work settings.now) settings.now.max_symbols old_cells.now
-        (Some (header_of settings.now.mode)) (cell_names new_cells.now) (S.meaning station.old) (S.meaning station.new)
-        result }
-{
-    let mut work = AligningWork {
-        settings: *settings,
-        search,
-        copying: None::<Copying>,
-    };
-    let files = CellFile { name: new_cells };
-    run_cells(
-        settings.max_symbols,
-        old_cells,
-        Some(header(settings.mode)),
-        &files,
-        &mut work,
-        symbol,
-        station,
-    )
-}
+use tune_search::Search;
 
 // Allocates the memory for a mode's search and one symbol, and runs the work.
 fn align_in<'a, M: Carriers, S: Station<'a>>(
@@ -73,25 +37,21 @@ fn align_in<'a, M: Carriers, S: Station<'a>>(
     let Ok(search) = Search::<M>::new(alloc) else {
         return refuse(&Refusal::Memory, station);
     };
-    align_by(search, settings, &mut symbol, old_cells, new_cells, station)
-}
-
-// The same in the mode of the settings.
-fn align_accepted<'a, S: Station<'a>>(
-    alloc: Global,
-    settings: &Settings,
-    old_cells: &'a str,
-    new_cells: &'a str,
-    station: &mut S,
-) -> u8
-    requires ready { IsReady (cell_names new_cells.now) (S.meaning station.old) }
-    ensures { RunsOrLacks settings.now old_cells.now new_cells.now (S.meaning station.old) (S.meaning station.new)
-        result }
-{
-    match settings.mode {
-        Mode::M2k => align_in::<Mode2k, S>(alloc, settings, old_cells, new_cells, station),
-        Mode::M8k => align_in::<Mode8k, S>(alloc, settings, old_cells, new_cells, station),
-    }
+    let mut work = AligningWork {
+        settings: *settings,
+        search,
+        copying: None::<Copying>,
+    };
+    let files = CellFile { name: new_cells };
+    run_cells(
+        settings.max_symbols,
+        old_cells,
+        Some(header(settings.mode)),
+        &files,
+        &mut work,
+        &mut symbol,
+        station,
+    )
 }
 
 /// Runs `align SETTINGS IN OUT` and returns its status: from the super-frame after the first readable frame on, the
@@ -121,7 +81,10 @@ pub fn align<'a, S: Station<'a>>(
     tune_search::laws::least_place();
     reception::whole_symbols::whole_symbols();
     match read_settings(alloc, settings, station) {
-        Ok(accepted) => align_accepted(alloc, &accepted, old_cells, new_cells, station),
+        Ok(accepted) => match accepted.mode {
+            Mode::M2k => align_in::<Mode2k, S>(alloc, &accepted, old_cells, new_cells, station),
+            Mode::M8k => align_in::<Mode8k, S>(alloc, &accepted, old_cells, new_cells, station),
+        },
         Err(refusal) => refuse(&refusal, station),
     }
 }

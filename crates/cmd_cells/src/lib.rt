@@ -13,7 +13,7 @@ mod run_error;
 mod work;
 mod writing;
 
-pub use outputs::{CellFile, OutputFiles, StreamFiles};
+pub use outputs::{CellFile, OutputFiles, ReceptionFiles};
 pub use run::run_cells;
 pub use run_error::RunError;
 pub use work::SymbolWork;

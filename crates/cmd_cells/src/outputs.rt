@@ -28,12 +28,15 @@ pub trait OutputFiles<'a, S: Station<'a>> {
         ensures closes { AreClosed (names self.now) (S.meaning station.old) (S.meaning station.new) };
 }
 
-/// A transport file for each stream: HP and, with two streams, LP.
+/// The names of the files of a command that receives cells. Its outputs are a transport file for each stream: HP and,
+/// with two streams, LP.
 #[derive(Clone, Copy)]
-pub struct StreamFiles<'a> {
-    /// The transport file of high priority, or the only one.
+pub struct ReceptionFiles<'a> {
+    /// The file of cells to read.
+    pub cells: &'a str,
+    /// The transport file to create, of high priority or the only one.
     pub hp: &'a str,
-    /// The transport file of low priority, if there is one.
+    /// The transport file of low priority to create, if there is one.
     pub lp: Option<&'a str>,
 }
 
@@ -62,7 +65,7 @@ impl<'a, S: Station<'a>> OutputFiles<'a, S> for CellFile<'a> {
     }
 }
 
-impl<'a, S: Station<'a>> OutputFiles<'a, S> for StreamFiles<'a> {
+impl<'a, S: Station<'a>> OutputFiles<'a, S> for ReceptionFiles<'a> {
     ghost names = { λ x. stream_names x.hp.now (option_copied x.lp) };
 
     fn create(&self, station: &mut S) -> Result<(), RunError> {

@@ -5,7 +5,7 @@ ghost use Rattle.cmd_base.specs.Causes.{FlushesOnly};
 ghost use Rattle.cmd_cells.specs.Stops.{HasEndCause, Settles};
 ghost use Rattle.cmd_cells.specs.Work.{HasReason};
 ghost use Rattle.cmd_cells.specs.Cells.{EndsWithin, TakesAtMost};
-ghost use Rattle.cmd_cells.specs.Runs.{AsksOutputs, CanBegin, IsReady, PortsOnly, RanBehind, RunsBehind, RunsCells};
+ghost use Rattle.cmd_cells.specs.Runs.{AsksOutputs, CanBegin, IsReady, PortsOnly, RanBehind, RunsCells};
 
 use crate::cells::work_on_cells;
 use crate::opening::open_cells;
@@ -65,30 +65,6 @@ fn run_behind<'a, F: OutputFiles<'a, S>, X: SymbolWork<'a, S>, S: Station<'a>>(
     settled.and(closed)
 }
 
-// The run after opening the cells, to its status.
-fn run_opened<'a, F: OutputFiles<'a, S>, X: SymbolWork<'a, S>, S: Station<'a>>(
-    max_symbols: u32,
-    files: &F,
-    work: &mut X,
-    symbol: &mut [u8],
-    station: &mut S,
-) -> u8
-    requires able { X.able }
-    requires attached { (S.meaning station.old).cells.attached ≡ true }
-    requires begin { CanBegin (F.names files.now) (S.meaning station.old) }
-    requires outputs { (port : OutPort) → X.outputs (X.setup work.old) port ≡ is_some (F.names files.now port) }
-    requires size { length symbol.old ≡ (X.work (X.setup work.old)).size }
-    requires some { 0 < length symbol.old }
-    requires new { X.is_new work.old }
-    ensures runs { RunsBehind (X.work (X.setup work.old)) max_symbols (F.names files.now) (S.meaning station.old)
-        (S.meaning station.new) result }
-{
-    match run_behind(max_symbols, files, work, symbol, station) {
-        Ok(()) => 0,
-        Err(stop) => refuse(&stop.refusal(max_symbols), station),
-    }
-}
-
 /// Runs a command on the cells of the file of this name, with its work and its outputs, and returns the status.
 ///
 /// The cells are opened and their header, if one is required, is read before an output is created: cells that do not
@@ -113,7 +89,10 @@ pub fn run_cells<'a, F: OutputFiles<'a, S>, X: SymbolWork<'a, S>, S: Station<'a>
         (S.meaning station.old) (S.meaning station.new) result }
 {
     match open_cells(cells, header, station) {
-        Ok(()) => run_opened(max_symbols, files, work, symbol, station),
+        Ok(()) => match run_behind(max_symbols, files, work, symbol, station) {
+            Ok(()) => 0,
+            Err(stop) => refuse(&stop.refusal(max_symbols), station),
+        },
         Err(refusal) => refuse(&refusal, station),
     }
 }

@@ -50,24 +50,6 @@ fn equalise_in<'a, M: Carriers, S: Station<'a>>(
     )
 }
 
-// The same in the mode of the settings.
-fn equalise_accepted<'a, S: Station<'a>>(
-    alloc: Global,
-    settings: &Settings,
-    old_cells: &'a str,
-    new_cells: &'a str,
-    station: &mut S,
-) -> u8
-    requires ready { IsReady (cell_names new_cells.now) (S.meaning station.old) }
-    ensures { RunsOrLacks (equalisation settings.now.mode) settings.now.max_symbols old_cells.now new_cells.now
-        (S.meaning station.old) (S.meaning station.new) result }
-{
-    match settings.mode {
-        Mode::M2k => equalise_in::<Mode2k, S>(alloc, settings, old_cells, new_cells, station),
-        Mode::M8k => equalise_in::<Mode8k, S>(alloc, settings, old_cells, new_cells, station),
-    }
-}
-
 /// Runs `equalise SETTINGS IN OUT` and returns its status: the cells of IN are corrected by the pilots of their own
 /// symbols (EN 300 744, 4.5), and written to OUT. Both are cell files of version 2, and IN begins at the first symbol
 /// of a super-frame.
@@ -92,7 +74,10 @@ pub fn equalise<'a, S: Station<'a>>(
 {
     law_link::flat_gain::files_come_back();
     match read_settings(alloc, settings, station) {
-        Ok(accepted) => equalise_accepted(alloc, &accepted, old_cells, new_cells, station),
+        Ok(accepted) => match accepted.mode {
+            Mode::M2k => equalise_in::<Mode2k, S>(alloc, &accepted, old_cells, new_cells, station),
+            Mode::M8k => equalise_in::<Mode8k, S>(alloc, &accepted, old_cells, new_cells, station),
+        },
         Err(refusal) => refuse(&refusal, station),
     }
 }

@@ -1,18 +1,14 @@
 // The command.
-ghost use Rattle.std.specs.Prelude.{◌≡◌, ◌<◌, ◌*◌, ◌^◌, false, [], length, Some};
+ghost use Rattle.std.specs.Prelude.{◌≡◌, ◌<◌, ◌*◌, ◌^◌, false};
 ghost use Rattle.std.specs.Thread.{IsSync};
-ghost use Rattle.frame_build.specs.CellFile.{header as header_of};
-ghost use Rattle.reception.specs.Cells.{symbol_length};
-ghost use Rattle.reception.specs.Streams.{so_far};
 ghost use Rattle.station_core.specs.Meaning.{IsFresh};
 ghost use Rattle.cmd_base.specs.Run.{Run};
-ghost use Rattle.cmd_cells.specs.Runs.{IsReady, RunsCells};
-ghost use Rattle.measurer.specs.Standing.{StandsFor};
-ghost use Rattle.cmd_measure.specs.Feeder.{IsFed, IsFeeder};
+ghost use Rattle.cmd_cells.specs.Runs.{IsReady};
+ghost use Rattle.cmd_measure.specs.Feeder.{IsFed};
 ghost use Rattle.cmd_measure.specs.MeasureCommand.{measure_command, no_names};
-ghost use Rattle.cmd_measure.specs.Working.{RunsOrLacks, measuring_work};
+ghost use Rattle.cmd_measure.specs.Working.{RunsOrLacks};
 
-use crate::measurers::{MeasurerWithLines, ModeMeasurer};
+use crate::measurers::MeasurerWithLines;
 use crate::measuring_work::MeasuringWork;
 use crate::no_files::NoFiles;
 use cmd_base::{Limits, Refusal, read_settings, refuse};
@@ -25,46 +21,10 @@ use std::alloc::Global;
 use std::thread::Threads;
 use word_workers::Gate;
 
-// Runs the work with a measurer that has had no byte, fed by this feeder. `symbol` has the size of a symbol.
-fn measure_by<
-    'a,
-    'r,
-    R: Threads + Sync,
-    F: Fn(&mut T, &[u8], &mut MeasureOut) -> usize,
-    T: ModeMeasurer + Drop,
-    S: Station<'a>,
->(
-    measurer: MeasurerWithLines<'r, R, F, T>,
-    settings: &Settings,
-    symbol: &mut [u8],
-    cells: &'a str,
-    station: &mut S,
-) -> u8
-    requires feeder { IsFeeder T.size T.state F.Fn measurer.feeder.now }
-    requires fits { symbol_length settings.now ≡ T.size }
-    requires start { StandsFor so_far (T.state measurer.measurer) [] [] }
-    requires settings { (T.state measurer.measurer).settings ≡ settings.now }
-    requires size { length symbol.old ≡ symbol_length settings.now }
-    requires ready { IsReady no_names (S.meaning station.old) }
-    ensures { RunsCells (measuring_work settings.now) settings.now.max_symbols cells.now
-        (Some (header_of settings.now.mode)) no_names (S.meaning station.old) (S.meaning station.new) result }
-{
-    let mut work = MeasuringWork { measurer };
-    run_cells(
-        settings.max_symbols,
-        cells,
-        Some(header(settings.mode)),
-        &NoFiles,
-        &mut work,
-        symbol,
-        station,
-    )
-}
-
 // Allocates the memory for a mode's measurer and one symbol, and runs the work through this gate.
-fn measure_in<'a, M: Carriers, R: Threads + Sync, G: Gate, S: Station<'a>>(
-    rt: &R,
-    gate: &G,
+fn measure_in<'a, 'r, M: Carriers, R: Threads + Sync, G: Gate, S: Station<'a>>(
+    rt: &'r R,
+    gate: &'r G,
     alloc: Global,
     settings: &Settings,
     cells: &'a str,
@@ -84,35 +44,27 @@ fn measure_in<'a, M: Carriers, R: Threads + Sync, G: Gate, S: Station<'a>>(
     let Ok(measurer) = Measurer::<M>::new(alloc, settings) else {
         return refuse(&Refusal::Memory, station);
     };
-    let feeder = |measurer: &mut Measurer<M>, piece: &[u8], out: &mut MeasureOut| -> usize
+    let feeder = move |measurer: &mut Measurer<M>, piece: &[u8], out: &mut MeasureOut| -> usize
         requires { IsSync R.row × (measurer.now.ended ≡ false) × (measurer.now.taken < 2 ^ 32) }
         ensures { IsFed (5 * M.K) measurer.entry.now piece.entry.now measurer.exit.now out.exit.now result }
     { measurer.feed_gated(rt, gate, piece, out) };
-    let measurer = MeasurerWithLines {
-        rt,
-        feeder: &feeder,
-        measurer,
-        out,
+    let mut work = MeasuringWork {
+        measurer: MeasurerWithLines {
+            rt,
+            feeder,
+            measurer,
+            out,
+        },
     };
-    measure_by(measurer, settings, &mut symbol, cells, station)
-}
-
-// The same in the mode of the settings.
-fn measure_accepted<'a, R: Threads + Sync, G: Gate, S: Station<'a>>(
-    rt: &R,
-    gate: &G,
-    alloc: Global,
-    settings: &Settings,
-    cells: &'a str,
-    station: &mut S,
-) -> u8
-    requires ready { IsReady no_names (S.meaning station.old) }
-    ensures { RunsOrLacks settings.now cells.now (S.meaning station.old) (S.meaning station.new) result }
-{
-    match settings.mode {
-        Mode::M2k => measure_in::<Mode2k, R, G, S>(rt, gate, alloc, settings, cells, station),
-        Mode::M8k => measure_in::<Mode8k, R, G, S>(rt, gate, alloc, settings, cells, station),
-    }
+    run_cells(
+        settings.max_symbols,
+        cells,
+        Some(header(settings.mode)),
+        &NoFiles,
+        &mut work,
+        &mut symbol,
+        station,
+    )
 }
 
 /// Runs `measure SETTINGS CELLS` and returns its status: the sums of each super-frame are reported with the symbol that
@@ -145,7 +97,10 @@ pub fn measure<'a, R: Threads + Sync, G: Gate, S: Station<'a>>(
     law_measurement::laws::decided_cells_are_sent();
     law_measurement::laws::transmissions_are_measured();
     match read_settings(alloc, settings, station) {
-        Ok(accepted) => measure_accepted(rt, gate, alloc, &accepted, cells, station),
+        Ok(accepted) => match accepted.mode {
+            Mode::M2k => measure_in::<Mode2k, R, G, S>(rt, gate, alloc, &accepted, cells, station),
+            Mode::M8k => measure_in::<Mode8k, R, G, S>(rt, gate, alloc, &accepted, cells, station),
+        },
         Err(refusal) => refuse(&refusal, station),
     }
 }

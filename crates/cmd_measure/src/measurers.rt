@@ -46,7 +46,7 @@ pub(crate) struct MeasurerWithLines<'r, R, F, T> {
     /// The runtime.
     pub rt: &'r R,
     /// The function that feeds the measurer.
-    pub feeder: &'r F,
+    pub feeder: F,
     /// The measurer.
     pub measurer: T,
     /// The lines of its last call.
@@ -68,15 +68,14 @@ impl<
     ghost settings = { λ x. (T.state x.measurer).settings };
 
     ghost stands = { λ x moment bytes given. StandsFor moment (T.state x.measurer) bytes given
-        × IsFeeder T.size T.state F.Fn x.feeder.now × (symbol_length (T.state x.measurer).settings ≡ T.size) };
+        × IsFeeder T.size T.state F.Fn x.feeder × (symbol_length (T.state x.measurer).settings ≡ T.size) };
 
     ghost gave = { λ x. x.out };
 
     ghost has_threads = { IsSync R.row };
 
     fn feed(&mut self, piece: &[u8]) {
-        let feeder = self.feeder;
-        feeder(&mut self.measurer, piece, &mut self.out);
+        (self.feeder)(&mut self.measurer, piece, &mut self.out);
     }
 
     fn finish(&mut self) {

@@ -6,7 +6,7 @@ use Rattle.mode_set.specs.declared.modes.Stream.{Stream}
 use Rattle.reception.specs.Cells.{symbol_length, symbols, tail}
 use Rattle.reception.specs.Lines.{events}
 use Rattle.reception.specs.Streams.{Reception}
-use Rattle.reception.specs.Feeds.{Feeds, Finishes, Output, packets_of, taken}
+use Rattle.reception.specs.Feeds.{Feeds, Output, packets_of, taken}
 use Rattle.cmd_receive.specs.Kinds.{Kind, TakesAs}
 use Rattle.cmd_receive.specs.Working.{Takes, plain}
 
@@ -34,7 +34,3 @@ took s bytes piece before n out standing fits f = took_as plain s bytes piece be
 pub kept_feeds : (Kept : Type 0) (standing : List ℕ → Reception → Type 0) (s : Settings) (bytes piece : List ℕ) (before : Reception) (n : ℕ) (out : Output)
     → Kept → Feeds standing s bytes piece before n out → Feeds (λ b r. standing b r × Kept) s bytes piece before n out
 kept_feeds Kept standing s bytes piece before n out k f = record { after = f.after; count = f.count; stands = (f.stands, k); live = f.live; follows = f.follows }
-
-pub kept_finishes : (Kept : Type 0) (ends : List ℕ → Reception → Type 0) (s : Settings) (bytes : List ℕ) (before : Reception) (out : Output)
-    → Kept → Finishes ends s bytes before out → Finishes (λ b r. ends b r × Kept) s bytes before out
-kept_finishes Kept ends s bytes before out k f = record { after = f.after; ends = (f.ends, k); final = f.final; packets = f.packets; no_event = f.no_event }

@@ -22,3 +22,7 @@ module _ {F T : Type 0} (state : T → ReceiverState) (g : Shared F
         → (state x.now).taken < 2 ^ 32 → g.pre f (x, (piece, (out, tt)))
     pub feeds : (x y : MutBor T) (piece : Bor (List ℕ)) (out made : MutBor Output) (n : ℕ)
         → g.post f (x, (piece, (out, tt))) (n, (y, (made, tt))) → IsFed (state x.now) piece.now (state y.now) made.now n
+
+  -- the receiver x, fed by f, has had these bytes and has given this reception
+  abbrev pub FedStands : T → List ℕ → Reception → Type 0
+  FedStands x bytes r = StandsFor so_far (state x) bytes r × IsFeeder

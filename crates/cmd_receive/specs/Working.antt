@@ -1,7 +1,6 @@
 -- The work of `receive` on cells, with settings s; `two` means that there are two streams.
-use Rattle.std.specs.Prelude.{ℕ, ◌^◌, ◌<◌, Bool, List, ◌++◌}
+use Rattle.std.specs.Prelude.{ℕ, Bool, List, ◌++◌}
 use Rattle.mode_set.specs.declared.settings.Settings.{Settings}
-use Rattle.reception.specs.Cells.{symbols}
 use Rattle.reception.specs.Streams.{Reception, Live, Final}
 use Rattle.reception.specs.Lines.{event_lines, closing_lines}
 use Rattle.reception.specs.Feeds.{Output}
@@ -37,13 +36,6 @@ live_at s two bytes r = written_at two r.packets (event_lines s bytes r)
 
 abbrev pub final_at : Settings → Bool → List ℕ → Reception → Written
 final_at s two bytes r = written_at two r.packets (event_lines s bytes r ++ closing_lines s bytes r)
-
--- a receiver that may take another piece: it has had fewer than 2^32 symbols
-pub record GoesOn (s : Settings) (standing : List ℕ → Reception → Type 0) : Type 0 where
-  pub bytes : List ℕ
-  pub given : Reception
-  pub stands : standing bytes given
-  pub few : symbols s bytes < 2 ^ 32
 
 abbrev pub Takes : (List ℕ → Reception → Type 0) → Settings → List ℕ → List ℕ → Reception → Output → Type 0
 Takes = TakesAs plain

@@ -1,25 +1,21 @@
 // The command.
-ghost use Rattle.std.specs.Prelude.{◌≡◌, ◌<◌, ◌^◌, false, [], length};
-ghost use Rattle.reception.specs.Cells.{symbol_length};
-ghost use Rattle.reception.specs.Streams.{so_far};
-ghost use Rattle.reception.specs.Laws.{nothing};
-ghost use Rattle.receiver.specs.Standing.{StandsFor};
+ghost use Rattle.std.specs.Prelude.{◌≡◌, ◌<◌, ◌^◌, false};
 ghost use Rattle.std.specs.Option.{option_copied};
 ghost use Rattle.station_core.specs.Meaning.{IsFresh};
 ghost use Rattle.cmd_base.specs.Run.{Run};
 ghost use Rattle.std.specs.Thread.{IsSync};
-ghost use Rattle.cmd_receive.specs.Feeder.{IsFed, IsFeeder};
+ghost use Rattle.cmd_receive.specs.Feeder.{IsFed};
 ghost use Rattle.cmd_cells.specs.Runs.{IsReady};
 ghost use Rattle.cmd_cells.specs.Outputs.{stream_names};
-ghost use Rattle.cmd_receive.specs.Runs.{RunsOrLacks, RunsReceiving};
+ghost use Rattle.cmd_receive.specs.Runs.{RunsOrLacks};
 ghost use Rattle.cmd_receive.specs.Working.{reception_work};
 ghost use Rattle.cmd_receive.specs.ReceiveCommand.{receive_command};
 
-use crate::receivers::{ModeReceiver, ReceiverWithOutput};
 use crate::reception_work::ReceptionWork;
-use crate::running::ReceptionFiles;
 use cmd_base::{Limits, Refusal, read_fitting, refuse};
+use cmd_cells::{ReceptionFiles, run_cells};
 use code_paths::shared_begins_least;
+use frame_build::header;
 use mode_set::{Carriers, Mode, Mode2k, Mode8k, Settings};
 use receiver::{Receiver, RxOut};
 use station_core::Station;
@@ -27,38 +23,10 @@ use std::alloc::Global;
 use std::thread::Threads;
 use word_workers::Gate;
 
-// Runs the reception with a receiver that has had no byte, fed by this feeder. `symbol` has the size of a symbol.
-fn receive_by<
-    'a,
-    'r,
-    R: Threads + Sync,
-    F: Fn(&mut T, &[u8], &mut RxOut) -> usize,
-    T: ModeReceiver + Drop,
-    S: Station<'a>,
->(
-    receiver: ReceiverWithOutput<'r, R, F, T>,
-    settings: &Settings,
-    symbol: &mut [u8],
-    files: ReceptionFiles<'a>,
-    station: &mut S,
-) -> u8
-    requires feeder { IsFeeder T.state F.Fn receiver.feeder.now }
-    requires start { StandsFor so_far (T.state receiver.receiver) [] nothing }
-    requires settings { (T.state receiver.receiver).settings ≡ settings.now }
-    requires size { length symbol.old ≡ symbol_length settings.now }
-    requires ready { IsReady (stream_names files.hp.now (option_copied files.lp)) (S.meaning station.old) }
-    ensures { RunsReceiving reception_work settings.now files.entry.cells.now files.entry.hp.now
-        (option_copied files.entry.lp) (S.meaning station.old) (S.meaning station.new) result }
-{
-    let two = files.lp.is_some();
-    let mut work = ReceptionWork { receiver, two };
-    files.run_work(settings, &mut work, symbol, station)
-}
-
 // Allocates the memory for a mode's receiver and one symbol, and runs the reception through this gate.
-fn receive_in<'a, M: Carriers, R: Threads + Sync, G: Gate, S: Station<'a>>(
-    rt: &R,
-    gate: &G,
+fn receive_in<'a, 'r, M: Carriers, R: Threads + Sync, G: Gate, S: Station<'a>>(
+    rt: &'r R,
+    gate: &'r G,
     alloc: Global,
     settings: &Settings,
     files: ReceptionFiles<'a>,
@@ -79,36 +47,26 @@ fn receive_in<'a, M: Carriers, R: Threads + Sync, G: Gate, S: Station<'a>>(
     let Ok(receiver) = Receiver::<M>::new(alloc, settings) else {
         return refuse(&Refusal::Memory, station);
     };
-    let feeder = |receiver: &mut Receiver<M>, piece: &[u8], out: &mut RxOut| -> usize
+    let feeder = move |receiver: &mut Receiver<M>, piece: &[u8], out: &mut RxOut| -> usize
         requires { IsSync R.row × (receiver.now.ended ≡ false) × (receiver.now.taken < 2 ^ 32) }
         ensures { IsFed receiver.entry.now piece.entry.now receiver.exit.now out.exit.now result }
     { receiver.feed_gated(rt, gate, piece, out) };
-    let receiver = ReceiverWithOutput {
+    let mut work = ReceptionWork {
         rt,
-        feeder: &feeder,
+        feeder,
         receiver,
         out,
+        two: files.lp.is_some(),
     };
-    receive_by(receiver, settings, &mut symbol, files, station)
-}
-
-// The same in the mode of the settings.
-fn receive_accepted<'a, R: Threads + Sync, G: Gate, S: Station<'a>>(
-    rt: &R,
-    gate: &G,
-    alloc: Global,
-    settings: &Settings,
-    files: ReceptionFiles<'a>,
-    station: &mut S,
-) -> u8
-    requires ready { IsReady (stream_names files.hp.now (option_copied files.lp)) (S.meaning station.old) }
-    ensures { RunsOrLacks reception_work settings.now files.entry.cells.now files.entry.hp.now
-        (option_copied files.entry.lp) (S.meaning station.old) (S.meaning station.new) result }
-{
-    match settings.mode {
-        Mode::M2k => receive_in::<Mode2k, R, G, S>(rt, gate, alloc, settings, files, station),
-        Mode::M8k => receive_in::<Mode8k, R, G, S>(rt, gate, alloc, settings, files, station),
-    }
+    run_cells(
+        settings.max_symbols,
+        files.cells,
+        Some(header(settings.mode)),
+        &files,
+        &mut work,
+        &mut symbol,
+        station,
+    )
 }
 
 /// Runs `receive SETTINGS CELLS HP` or, with an LP file, `receive SETTINGS CELLS HP LP`, and returns its status.
@@ -142,7 +100,10 @@ pub fn receive<'a, R: Threads + Sync, G: Gate, S: Station<'a>>(
     law_link::laws::packets_then_nulls();
     shared_begins_least();
     match read_fitting(alloc, settings, files.lp, station) {
-        Ok(accepted) => receive_accepted(rt, gate, alloc, &accepted, files, station),
+        Ok(accepted) => match accepted.mode {
+            Mode::M2k => receive_in::<Mode2k, R, G, S>(rt, gate, alloc, &accepted, files, station),
+            Mode::M8k => receive_in::<Mode8k, R, G, S>(rt, gate, alloc, &accepted, files, station),
+        },
         Err(refusal) => refuse(&refusal, station),
     }
 }

@@ -2,20 +2,16 @@
 //!
 //! The cells are read symbol by symbol and passed to a receiver. After each symbol its output is written: the packets
 //! of HP, those of LP, and the lines of its unmerged reports. The call has the promise of a run. The work on the
-//! symbols, [`ReceptionWork`], serves every command that receives in this way; other kinds of reception use its writing
-//! and its run.
+//! symbols, [`ReceptionWork`], serves every command that receives in this way; other kinds of reception use its writing.
 #![tactic(auto)]
 
-mod cell_receiver;
 mod command;
 mod receivers;
 mod reception_work;
-mod running;
 mod writing;
 
-pub use cell_receiver::CellReceiver;
+pub use cmd_cells::ReceptionFiles;
 pub use command::receive;
-pub use receivers::{ModeReceiver, ReceiverWithOutput};
+pub use receivers::ModeReceiver;
 pub use reception_work::ReceptionWork;
-pub use running::ReceptionFiles;
 pub use writing::{ClosingLines, write_lines, write_out};

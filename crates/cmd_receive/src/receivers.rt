@@ -1,5 +1,7 @@
 // The receiver of the work.
-ghost use Rattle.std.specs.Prelude.{◌≡◌, ℕ, List, false};
+ghost use Rattle.std.specs.Prelude.{◌≡◌, ℕ, List, IfSome, [], false};
+ghost use Rattle.mode_set.specs.declared.modes.Mode.{Mode};
+ghost use Rattle.reception.specs.Laws.{nothing};
 ghost use Rattle.reception.specs.Streams.{Moment, Reception, so_far, at_end};
 ghost use Rattle.reception.specs.Lines.{counts_of};
 ghost use Rattle.reception.specs.Feeds.{Finishes};
@@ -7,15 +9,24 @@ ghost use Rattle.std.specs.Thread.{IsSync};
 ghost use Rattle.receiver.specs.Seen.{ReceiverState};
 ghost use Rattle.receiver.specs.Standing.{StandsFor};
 
-use crate::cell_receiver::CellReceiver;
-use mode_set::Carriers;
+use mode_set::{Carriers, Settings};
 use receiver::{Receiver, RxOut};
 use rx_report::Counts;
+use std::alloc::Global;
 use std::thread::Threads;
 
-/// The receiver of a mode.
+/// The receiver of a mode. It is fed by a closure that the work holds: a method with a gate cannot be proved there, as the
+/// gate's bound would rest on one thread alone.
 pub trait ModeReceiver {
     ghost state: { Self → ReceiverState };
+
+    ghost mode: { Mode };
+
+    /// A new receiver with these settings; None only for want of memory.
+    fn made(alloc: Global, settings: &Settings) -> Option<Self>
+        requires mode { settings.now.mode ≡ mode }
+        ensures settings { IfSome result (λ x. (state x).settings ≡ settings.now) }
+        ensures stands { IfSome result (λ x. StandsFor so_far (state x) [] nothing) };
 
     /// Ends the reception.
     fn finish<R: Threads + Sync>(&mut self, rt: &R, out: &mut RxOut)
@@ -34,57 +45,20 @@ pub trait ModeReceiver {
 impl<M: Carriers> ModeReceiver for Receiver<M> {
     ghost state = { λ x. x };
 
+    ghost mode = { M.MODE };
+
+    fn made(alloc: Global, settings: &Settings) -> Option<Self> {
+        match Receiver::<M>::new(alloc, settings) {
+            Ok(receiver) => Some(receiver),
+            Err(_) => None,
+        }
+    }
+
     fn finish<R: Threads + Sync>(&mut self, rt: &R, out: &mut RxOut) {
         Receiver::<M>::finish(self, rt, out);
     }
 
     fn counts(&self) -> Counts {
         Receiver::<M>::counts(self)
-    }
-}
-
-/// A receiver of a mode, with the output of its last call, the runtime whose threads it may use, and its feeder.
-#[derive(Drop)]
-pub struct ReceiverWithOutput<'r, R, F, T> {
-    /// The runtime.
-    pub rt: &'r R,
-    /// The function that feeds the receiver.
-    pub feeder: &'r F,
-    /// The receiver.
-    pub receiver: T,
-    /// The output of its last call.
-    pub out: RxOut,
-}
-
-impl<'r, R: Threads + Sync, F: Fn(&mut T, &[u8], &mut RxOut) -> usize, T: ModeReceiver> CellReceiver
-    for ReceiverWithOutput<'r, R, F, T> {
-    ghost use Rattle.receiver.specs.Standing.{StandsFor};
-    ghost use Rattle.std.specs.Thread.{IsSync};
-    ghost use Rattle.cmd_receive.specs.Feeder.{IsFeeder};
-
-    ghost settings = { λ x. (T.state x.receiver).settings };
-
-    ghost stands = { λ x moment bytes r. StandsFor moment (T.state x.receiver) bytes r
-        × IsFeeder T.state F.Fn x.feeder.now };
-
-    ghost gave = { λ x. x.out };
-
-    ghost has_threads = { IsSync R.row };
-
-    fn feed(&mut self, piece: &[u8]) {
-        let feeder = self.feeder;
-        feeder(&mut self.receiver, piece, &mut self.out);
-    }
-
-    fn finish(&mut self) {
-        self.receiver.finish(self.rt, &mut self.out);
-    }
-
-    fn out(&self) -> &RxOut {
-        &self.out
-    }
-
-    fn counts(&self) -> Counts {
-        self.receiver.counts()
     }
 }

@@ -61,24 +61,6 @@ fn track_in<'a, M: Carriers, S: Station<'a>>(
     )
 }
 
-// The same in the mode of the settings.
-fn track_accepted<'a, S: Station<'a>>(
-    alloc: Global,
-    settings: &Settings,
-    old_cells: &'a str,
-    new_cells: &'a str,
-    station: &mut S,
-) -> u8
-    requires ready { IsReady (cell_names new_cells.now) (S.meaning station.old) }
-    ensures { RunsOrLacks settings.now old_cells.now new_cells.now (S.meaning station.old) (S.meaning station.new)
-        result }
-{
-    match settings.mode {
-        Mode::M2k => track_in::<Mode2k, S>(alloc, settings, old_cells, new_cells, station),
-        Mode::M8k => track_in::<Mode8k, S>(alloc, settings, old_cells, new_cells, station),
-    }
-}
-
 /// Runs `track SETTINGS IN OUT` and returns its status: the cells of IN are corrected by the scattered pilots of
 /// neighbouring symbols (EN 300 744, 4.5.3), and written to OUT with weights from the noise. Both are cell files of
 /// version 2, and IN begins at the first symbol of a super-frame.
@@ -109,7 +91,10 @@ pub fn track<'a, S: Station<'a>>(
     law_tracking::gains::steady_gains_are_exact();
     law_tracking::laws::flat_gain_is_tracked();
     match read_settings(alloc, settings, station) {
-        Ok(accepted) => track_accepted(alloc, &accepted, old_cells, new_cells, station),
+        Ok(accepted) => match accepted.mode {
+            Mode::M2k => track_in::<Mode2k, S>(alloc, &accepted, old_cells, new_cells, station),
+            Mode::M8k => track_in::<Mode8k, S>(alloc, &accepted, old_cells, new_cells, station),
+        },
         Err(refusal) => refuse(&refusal, station),
     }
 }

@@ -37,7 +37,7 @@ use Rattle.cmd_receive.proofs.Parts.{symbols_are}
 use Rattle.tps_word.specs.Tps.{IsValid}
 use Rattle.tps_word.specs.declared.word.TpsWord.{TpsWord}
 use Rattle.tune_in.specs.Announced.{IsAnnounced}
-use Rattle.tune_in.specs.OfBytes.{FoundStaysInBytes, HasNoPlace, IsFoundIn, rest}
+use Rattle.tune_in.specs.OfBytes.{FoundStaysInBytes, IsFoundIn, rest}
 use Rattle.tune_in.specs.Places.{OneFound, begin}
 use Rattle.tune_in.specs.declared.frame.Found.{Found}
 use Rattle.tune_in.specs.LeastPlace.{HoldsNone, HoldsPlace, place_of}

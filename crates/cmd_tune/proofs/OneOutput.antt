@@ -1,5 +1,5 @@
 -- What `tune` produces is one output.
-use Rattle.std.proofs.Common.{◌≡◌, ◌⊎◌, inl, inr, true, false, ℕ, ◌<◌, ◌≤◌, Bool, List, ◌++◌, Option, Some, refl, ◌∙◌, sym, ap, ap₂, subst, arith}
+use Rattle.std.proofs.Common.{◌≡◌, ◌⊎◌, inl, inr, true, false, ℕ, ◌<◌, ◌≤◌, Bool, List, ◌++◌, Option, refl, ◌∙◌, sym, ap, ap₂, subst, arith}
 use Rattle.std.specs.Prelude.{is_some}
 use Rattle.std.proofs.lemmas.Bool.{true≢false}
 use Rattle.std.proofs.lemmas.List.{append_cancel_right}
@@ -8,7 +8,7 @@ use Rattle.mode_set.specs.declared.settings.Settings.{Settings}
 use Rattle.reception.specs.Cells.{symbols}
 use Rattle.reception.specs.Frames.{tps_cells}
 use Rattle.reception.specs.Lines.{closing_lines, event_lines}
-use Rattle.reception.specs.Streams.{Final, Live, Reception}
+use Rattle.reception.specs.Streams.{Reception}
 use Rattle.cmd_cells.specs.Work.{Written}
 use Rattle.reception.specs.Alike.{DifferInWorkers}
 use Rattle.cmd_receive.specs.OneOutput.{AtMostOne, ExactlyOne}

@@ -20,7 +20,7 @@ use Rattle.cmd_receive.specs.Working.{FinalGives, LiveGives, ReceiverStands, liv
 use Rattle.cmd_receive.proofs.Commands.{nothing_written}
 use Rattle.cmd_receive.proofs.Parts.{part_live}
 use Rattle.tune_in.specs.Announced.{IsAnnounced}
-use Rattle.tune_in.specs.OfBytes.{FoundStaysInBytes, HasNoPlace, IsFoundIn, rest}
+use Rattle.tune_in.specs.OfBytes.{FoundStaysInBytes, IsFoundIn, rest}
 use Rattle.tune_in.specs.Places.{begin}
 use Rattle.tune_in.specs.declared.frame.Found.{Found}
 use Rattle.tune_search.specs.Searching.{IsAtPlace}

@@ -1,6 +1,5 @@
 // The command.
-ghost use Rattle.std.specs.Prelude.{◌≡◌, ◌<◌, ◌^◌, false, [], length};
-ghost use Rattle.reception.specs.Cells.{symbol_length};
+ghost use Rattle.std.specs.Prelude.{◌≡◌, ◌<◌, ◌^◌, false};
 ghost use Rattle.std.specs.Option.{option_copied};
 ghost use Rattle.std.specs.Thread.{IsSync};
 ghost use Rattle.station_core.specs.Meaning.{IsFresh};
@@ -8,62 +7,27 @@ ghost use Rattle.cmd_base.specs.Run.{Run};
 ghost use Rattle.cmd_receive.specs.Feeder.{IsFed};
 ghost use Rattle.cmd_cells.specs.Runs.{IsReady};
 ghost use Rattle.cmd_base.specs.Ports.{stream_names};
-ghost use Rattle.cmd_receive.specs.Runs.{RunsOrLacks, RunsReceiving};
+ghost use Rattle.cmd_receive.specs.Runs.{RunsOrLacks};
 ghost use Rattle.cmd_tune.specs.Working.{tuning_work};
 ghost use Rattle.cmd_tune.specs.TuneCommand.{tune_command};
 
-use crate::reception_at_place::{ModeMaker, ReceiverMaker};
+use crate::reception_at_place::Behind;
 use crate::tuning_work::TuningWork;
 use cmd_base::{Limits, Refusal, read_settings, refuse};
-use cmd_receive::{CellReceiver, ReceptionFiles};
+use cmd_cells::{ReceptionFiles, run_cells};
+use frame_build::header;
 use mode_set::{Carriers, Mode, Mode2k, Mode8k, Settings};
 use receiver::{Receiver, RxOut};
 use station_core::Station;
 use std::alloc::Global;
-use std::marker::PhantomData;
 use std::thread::Threads;
-use tune_search::{PlaceSearch, Search};
+use tune_search::Search;
 use word_workers::Gate;
 
-// Runs the tuning with a new search. `symbol` has the size of a symbol.
-fn tune_by<
-    'a,
-    T: PlaceSearch + Drop,
-    X: CellReceiver + Drop,
-    P: ReceiverMaker<X> + Drop,
-    S: Station<'a>,
->(
-    search: T,
-    maker: P,
-    settings: &Settings,
-    symbol: &mut [u8],
-    files: ReceptionFiles<'a>,
-    station: &mut S,
-) -> u8
-    requires threads { X.has_threads }
-    requires search { T.stands search settings.now [] }
-    requires mode { settings.now.mode ≡ T.mode }
-    requires one_mode { P.mode ≡ T.mode }
-    requires able { P.able maker }
-    requires size { length symbol.old ≡ symbol_length settings.now }
-    requires ready { IsReady (stream_names files.hp.now (option_copied files.lp)) (S.meaning station.old) }
-    ensures { RunsReceiving tuning_work settings.now files.entry.cells.now files.entry.hp.now
-        (option_copied files.entry.lp) (S.meaning station.old) (S.meaning station.new) result }
-{
-    let mut work = TuningWork {
-        settings: *settings,
-        two: files.lp.is_some(),
-        search,
-        maker,
-        behind: None::<crate::reception_at_place::Behind<X>>,
-    };
-    files.run_work(settings, &mut work, symbol, station)
-}
-
 // Allocates a mode's search and one symbol, and runs the tuning through this gate.
-fn tune_in_mode<'a, M: Carriers, R: Threads + Sync, G: Gate, S: Station<'a>>(
-    rt: &R,
-    gate: &G,
+fn tune_in_mode<'a, 'r, M: Carriers, R: Threads + Sync, G: Gate, S: Station<'a>>(
+    rt: &'r R,
+    gate: &'r G,
     alloc: Global,
     settings: &Settings,
     files: ReceptionFiles<'a>,
@@ -81,36 +45,28 @@ fn tune_in_mode<'a, M: Carriers, R: Threads + Sync, G: Gate, S: Station<'a>>(
     let Ok(search) = Search::<M>::new(alloc) else {
         return refuse(&Refusal::Memory, station);
     };
-    let feeder = |receiver: &mut Receiver<M>, piece: &[u8], out: &mut RxOut| -> usize
+    let feeder = move |receiver: &mut Receiver<M>, piece: &[u8], out: &mut RxOut| -> usize
         requires { IsSync R.row × (receiver.now.ended ≡ false) × (receiver.now.taken < 2 ^ 32) }
         ensures { IsFed receiver.entry.now piece.entry.now receiver.exit.now out.exit.now result }
     { receiver.feed_gated(rt, gate, piece, out) };
-    let maker = ModeMaker::<R, _, Receiver<M>> {
+    let mut work = TuningWork {
+        settings: *settings,
+        two: files.lp.is_some(),
+        search,
         rt,
-        feeder: &feeder,
+        feeder,
         alloc,
-        of: PhantomData,
+        behind: None::<Behind<R, _, Receiver<M>>>,
     };
-    tune_by(search, maker, settings, &mut symbol, files, station)
-}
-
-// The same in the mode of the settings.
-fn tune_accepted<'a, R: Threads + Sync, G: Gate, S: Station<'a>>(
-    rt: &R,
-    gate: &G,
-    alloc: Global,
-    settings: &Settings,
-    files: ReceptionFiles<'a>,
-    station: &mut S,
-) -> u8
-    requires ready { IsReady (stream_names files.hp.now (option_copied files.lp)) (S.meaning station.old) }
-    ensures { RunsOrLacks tuning_work settings.now files.entry.cells.now files.entry.hp.now
-        (option_copied files.entry.lp) (S.meaning station.old) (S.meaning station.new) result }
-{
-    match settings.mode {
-        Mode::M2k => tune_in_mode::<Mode2k, R, G, S>(rt, gate, alloc, settings, files, station),
-        Mode::M8k => tune_in_mode::<Mode8k, R, G, S>(rt, gate, alloc, settings, files, station),
-    }
+    run_cells(
+        settings.max_symbols,
+        files.cells,
+        Some(header(settings.mode)),
+        &files,
+        &mut work,
+        &mut symbol,
+        station,
+    )
 }
 
 /// Runs `tune SETTINGS CELLS HP` or, with a file of LP, `tune SETTINGS CELLS HP LP`, and returns its status.
@@ -146,7 +102,14 @@ pub fn tune<'a, R: Threads + Sync, G: Gate, S: Station<'a>>(
     tune_in::more_bytes();
     reception::workers::workers();
     match read_settings(alloc, settings, station) {
-        Ok(accepted) => tune_accepted(rt, gate, alloc, &accepted, files, station),
+        Ok(accepted) => match accepted.mode {
+            Mode::M2k => tune_in_mode::<Mode2k, R, G, S>(
+                rt, gate, alloc, &accepted, files, station,
+            ),
+            Mode::M8k => tune_in_mode::<Mode8k, R, G, S>(
+                rt, gate, alloc, &accepted, files, station,
+            ),
+        },
         Err(refusal) => refuse(&refusal, station),
     }
 }

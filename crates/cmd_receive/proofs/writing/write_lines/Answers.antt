@@ -1,4 +1,4 @@
-use Rattle.std.proofs.Common.{◌≡◌, ◌+◌, ◌++◌, ◌≤◌, suc, ℕ, List, length, take, refl, sym, ◌∙◌, ap, subst, rules, arith, Ok, Err}
+use Rattle.std.proofs.Common.{◌≡◌, ◌+◌, ◌++◌, ◌≤◌, suc, ℕ, List, length, take, sym, ◌∙◌, ap, subst, rules, arith, Ok, Err}
 use Rattle.std.specs.List.{concat}
 use Rattle.std.proofs.lemmas.List.{length-take, take_all}
 use Rattle.station_core.specs.Meaning.{Meaning}

@@ -10,7 +10,7 @@ use Rattle.cmd_receive.proofs.reception_work.ReceptionWorkSymbolWork.begin.Goals
 pub returns-clause-begins : goal.returns-clause-begins
 returns-clause-begins g c =
     let m : Meaning = g.S.Station.meaning c.args._station.now in
-    let s : Settings = g.X.CellReceiver.settings c.args.self.now.receiver in
+    let s : Settings = (g.T.ModeReceiver.state c.args.self.now.receiver).settings in
     let two : Bool = c.args.self.now.two in
     let live = c.nothing.ensures.live s in
     record {

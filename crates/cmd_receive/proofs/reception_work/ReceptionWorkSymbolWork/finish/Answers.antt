@@ -1,4 +1,4 @@
-use Rattle.std.proofs.Common.{◌≡◌, Bool, refl, ◌∙◌, ap, subst, Ok, Err}
+use Rattle.std.proofs.Common.{◌≡◌, Bool, refl, ◌∙◌, ap, subst}
 use Rattle.std.specs.List.{concat}
 use Rattle.station_core.specs.Meaning.{Meaning}
 use Rattle.station_core.specs.declared.ports.OutPort.TheVariants as outs
@@ -11,11 +11,14 @@ use Rattle.rx_report.specs.declared.counts.Counts.{Counts}
 use Rattle.reception.specs.Streams.{at_end}
 use Rattle.reception.specs.Feeds.{Output}
 use Rattle.reception.specs.Lines.{counts_of}
-use Rattle.cmd_receive.specs.Writing.{Appends, WritesOut}
+use Rattle.cmd_receive.specs.Writing.{Appends}
 use Rattle.cmd_receive.specs.Kinds.{work_of}
 use Rattle.cmd_receive.specs.Working.{plain}
 use Rattle.cmd_receive.proofs.Ends.{ended, rest_failed}
 use Rattle.cmd_receive.proofs.reception_work.ReceptionWorkSymbolWork.finish.Goals as goal
+
+pub finish-requires : goal.finish-requires
+finish-requires g c = record { threads = record { shared = c.requires.able.shared }; going = c.requires.going.stands.1.0.ended }
 
 pub write_out-requires : goal.write_out-requires
 write_out-requires g c κs =
@@ -35,13 +38,13 @@ returns-clause-finishes g c = λ bytes before stood gives.
     let m : Meaning = g.S.Station.meaning c.args.station.now in
     let m' : Meaning = g.S.Station.meaning c.write_out.new.station in
     let m'' : Meaning = g.S.Station.meaning c.write_lines.new.station in
-    let s : Settings = g.X.CellReceiver.settings c.args.self.now.receiver in
+    let s : Settings = (g.T.ModeReceiver.state c.args.self.now.receiver).settings in
     let two : Bool = c.args.self.now.two in
-    let out : Output = g.X.CellReceiver.gave c.finish.new.self in
-    let f = c.finish.ensures.finishes bytes stood.0 stood.1 in
+    let out : Output = c.finish.new.out in
+    let f = c.finish.ensures.finished bytes stood.0 stood.1.0 in
     let ends = c.receptions.ensures.ends s bytes stood.0 f.after stood.2 f.final in
     let counts : c.counts.result ≡ counts_of s bytes f.after = c.counts.ensures at_end bytes f.after f.ends ∙ ap (λ (x : Settings). counts_of x bytes f.after) c.finish.ensures.settings in
-    ended plain s two bytes stood.0 before stood.3 out f.after ends.reports f.final f.packets f.no_event m m' c.in_ok-write_out.ensures.others m'' c.write_lines.ensures.others (λ t. subst (λ (o : Output). WritesOut two o m m' (Ok tt)) c.out.ensures (c.in_ok-write_out.ensures.written t)) c.write_lines.result
+    ended plain s two bytes stood.0 before stood.3 out f.after ends.reports f.final f.packets f.no_event m m' c.in_ok-write_out.ensures.others m'' c.write_lines.ensures.others c.in_ok-write_out.ensures.written c.write_lines.result
     (λ t. subst (λ (x : Counts). Appends (concat (closing_lines x)) m'.report.written m''.report.written c.write_lines.result) counts (c.write_lines.ensures.written t))
     c.write_lines.ensures.kind
 
@@ -49,11 +52,11 @@ pub returns-in_err-write_out-clause-finishes : goal.returns-in_err-write_out-cla
 returns-in_err-write_out-clause-finishes g c = λ bytes before stood gives.
     let m : Meaning = g.S.Station.meaning c.args.station.now in
     let m' : Meaning = g.S.Station.meaning c.write_out.new.station in
-    let s : Settings = g.X.CellReceiver.settings c.args.self.now.receiver in
+    let s : Settings = (g.T.ModeReceiver.state c.args.self.now.receiver).settings in
     let two : Bool = c.args.self.now.two in
-    let out : Output = g.X.CellReceiver.gave c.finish.new.self in
-    let f = c.finish.ensures.finishes bytes stood.0 stood.1 in
+    let out : Output = c.finish.new.out in
+    let f = c.finish.ensures.finished bytes stood.0 stood.1.0 in
     let ends = c.receptions.ensures.ends s bytes stood.0 f.after stood.2 f.final in
     let stop : RunError = c.in_err-write_out.field-0.0 in
     handed_on c.from_residual.result stop (Finishes (work_of plain s two) bytes before m m') c.from_residual.ensures.1
-    (rest_failed plain s two bytes stood.0 before stood.3 out f.after ends.reports f.final f.packets f.no_event m m' c.in_err-write_out.ensures.others stop c.in_err-write_out.ensures.kind (λ t. subst (λ (o : Output). WritesOut two o m m' (Err stop)) c.out.ensures (c.in_err-write_out.ensures.written t)))
+    (rest_failed plain s two bytes stood.0 before stood.3 out f.after ends.reports f.final f.packets f.no_event m m' c.in_err-write_out.ensures.others stop c.in_err-write_out.ensures.kind c.in_err-write_out.ensures.written)

@@ -10,7 +10,7 @@ use Rattle.cmd_receive.proofs.reception_work.ReceptionWorkSymbolWork.law.Goals a
 pub returns : goal.returns
 returns g c = record {
   part = λ bytes more given within is.
-      let s : Settings = g.X.CellReceiver.settings c.args.self.now.receiver in (
+      let s : Settings = (g.T.ModeReceiver.state c.args.self.now.receiver).settings in (
         is.0,
         part_live c.symbols.ensures.same c.costs.ensures.same c.symbols.ensures.tps c.symbols.ensures.bits s bytes more is.0 within is.1,
         (λ port. is.2 port ∙ ap (λ (q : ℕ). written_at c.args.self.now.two is.0.packets (flat_map event_line (events s q is.0.reports)) port) (sym (c.symbols.ensures.same s bytes more within))),

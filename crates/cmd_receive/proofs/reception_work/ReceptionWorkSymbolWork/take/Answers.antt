@@ -1,13 +1,15 @@
-use Rattle.std.proofs.Common.{◌++◌, Bool, refl, sym, subst, arith}
+use Rattle.std.proofs.Common.{◌++◌, ℕ, List, Bool, refl, sym, ap, arith}
 use Rattle.station_core.specs.Meaning.{Meaning}
 use Rattle.station_core.specs.declared.ports.OutPort.TheVariants as outs
 use Rattle.mode_set.specs.declared.settings.Settings.{Settings}
-use Rattle.reception.specs.Streams.{so_far}
+use Rattle.receiver.specs.Seen.{ReceiverState}
+use Rattle.reception.specs.Streams.{Reception}
 use Rattle.reception.specs.Feeds.{Output}
 use Rattle.cmd_cells.proofs.Steps.{moved}
 use Rattle.cmd_receive.specs.Working.{ReceiverStands, live_at, plain}
-use Rattle.cmd_receive.specs.Writing.{WritesOut}
+use Rattle.cmd_receive.specs.Feeder.{FedStands}
 use Rattle.cmd_receive.proofs.Ends.{took_piece}
+use Rattle.cmd_receive.proofs.Taking.{kept_feeds, took}
 use Rattle.cmd_receive.proofs.reception_work.ReceptionWorkSymbolWork.take.Goals as goal
 
 pub write_out-requires : goal.write_out-requires
@@ -23,19 +25,24 @@ write_out-requires g c κs =
       },
     )
 
+pub returns-clause-setup : goal.returns-clause-setup
+returns-clause-setup g c = ap (λ (s : Settings). (s, c.args.self.now.two)) (c.requires.going.stands.1.1.feeds _ _ _ _ _ _ c.feeder.ensures).settings
+
 pub returns-clause-takes : goal.returns-clause-takes
 returns-clause-takes g c = λ bytes before stood gives none fits.
     let m : Meaning = g.S.Station.meaning c.args.station.now in
     let m' : Meaning = g.S.Station.meaning c.write_out.new.station in
-    let s : Settings = g.X.CellReceiver.settings c.args.self.now.receiver in
-    let s' : Settings = g.X.CellReceiver.settings c.feed.new.self in
+    let s : Settings = (g.T.ModeReceiver.state c.args.self.now.receiver).settings in
+    let x' : ReceiverState = g.T.ModeReceiver.state c.feeder.new.arg2 in
+    let s' : Settings = x'.settings in
     let two : Bool = c.args.self.now.two in
-    let stands' = g.X.CellReceiver.stands c.feed.new.self so_far in
-    let out : Output = g.X.CellReceiver.gave c.feed.new.self in
+    let fed = stood.1.1.feeds _ _ _ _ _ _ c.feeder.ensures in
+    let stands' : List ℕ → Reception → Type 0 = FedStands g.T.ModeReceiver.state g.F.Fn c.args.self.now.feeder c.feeder.new.arg2 in
+    let out : Output = c.feeder.new.arg4 in
     let piece = c.args.piece.now in
-    let takes = c.feed.ensures.takes bytes stood.0 stood.1 (omega (arith, none, fits)) in
+    let takes = took s bytes piece stood.0 _ out stands' (omega (arith, none, fits)) (kept_feeds _ _ _ _ _ _ _ _ stood.1.1 (fed.fed bytes stood.0 stood.1.0)) in
     let given = live_at s two (bytes ++ piece) takes.after in
     let standing : ReceiverStands stands' s' two (bytes ++ piece) given =
-    moved s' s (λ (x : Settings). ReceiverStands stands' x two (bytes ++ piece) given) (sym c.feed.ensures.settings) (takes.after, takes.stands, takes.live, (λ port. refl)) in
+    moved s' s (λ (x : Settings). ReceiverStands stands' x two (bytes ++ piece) given) (sym fed.settings) (takes.after, takes.stands, takes.live, (λ port. refl)) in
     took_piece plain s two (ReceiverStands stands' s' two) bytes piece stood.0 before stood.3 stands' out takes standing m m' c.write_out.ensures.others c.write_out.result
-    (λ t. subst (λ (o : Output). WritesOut two o m m' c.write_out.result) c.out.ensures (c.write_out.ensures.written t)) c.write_out.ensures.kind
+    c.write_out.ensures.written c.write_out.ensures.kind

@@ -32,7 +32,7 @@ returns-clause-tunes g c =
     (fits_found c.args.found.now c.args.self.now.two c.is_flat.result (c.is_flat.ensures ∙ ap is_flat c.announced-settings.ensures.hierarchy_is) c.if-is_flat-self.false)
     (record {
       is_announced = subst (λ (a : Settings). IsAnnounced c.args.found.now.word c.args.self.now.settings a) (sym c.in-Some.ensures.settings) c.announced-settings.ensures;
-      stands = c.in-Some.ensures.stands;
+      stands = (c.in-Some.ensures.stands, c.requires.feeder);
       two_is = refl;
       skips = (let v = c.requires.valid in omega (arith, c.begin.ensures, v.first, v.last));
     })

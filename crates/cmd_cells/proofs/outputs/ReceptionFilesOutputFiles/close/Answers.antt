@@ -1,7 +1,7 @@
 use Rattle.std.proofs.Common.{refl, ◌∙◌, ap}
 use Rattle.station_core.specs.Meaning.{Meaning}
 use Rattle.station_core.specs.declared.ports.OutPort.TheVariants as outs
-use Rattle.cmd_cells.proofs.outputs.StreamFilesOutputFiles.close.Goals as goal
+use Rattle.cmd_cells.proofs.outputs.ReceptionFilesOutputFiles.close.Goals as goal
 
 pub close-requires : goal.close-requires
 close-requires g c κs = ((refl, tt), (c.requires.open.made outs.Hp refl, c.requires.open.opened outs.Hp refl))

@@ -3,7 +3,7 @@ use Rattle.std.specs.Prelude.{is_some}
 use Rattle.std.specs.Option.{option_copied}
 use Rattle.station_core.specs.Meaning.{Meaning}
 use Rattle.station_core.specs.declared.ports.OutPort.TheVariants as outs
-use Rattle.cmd_cells.proofs.outputs.StreamFilesOutputFiles.create.Goals as goal
+use Rattle.cmd_cells.proofs.outputs.ReceptionFilesOutputFiles.create.Goals as goal
 
 pub create-requires : goal.create-requires
 create-requires g c κs = ((refl, tt), ((c.requires.untouched outs.Hp refl).asked, (λ e. cc)))
