@@ -3,6 +3,7 @@ use Rattle.std.specs.Prelude.{◌≡◌, ℕ, ◌-◌, ◌^◌, ◌<◌, ◌++�
 use Rattle.std.specs.List.{concat}
 use denote.Ref.{Bor, MutBor}
 use denote.Param.Members.{Shared}
+use Rattle.reception.specs.Cells.{symbol_length}
 use Rattle.reception.specs.Streams.{so_far}
 use Rattle.measurer.specs.Seen.{MeasurerState}
 use Rattle.measurer.specs.Standing.{StandsFor}
@@ -25,3 +26,7 @@ module _ {F T : Type 0} (size : ℕ) (state : T → MeasurerState)
     pub feeds : (x y : MutBor T) (piece : Bor (List ℕ)) (out made : MutBor (List (List ℕ))) (n : ℕ)
         → g.post f (x, (piece, (out, tt))) (n, (y, (made, tt)))
         → IsFed size (state x.now) piece.now (state y.now) made.now n
+
+  -- the measurer x, fed by f, has had these bytes and has given these lines
+  abbrev pub FedStands : T → List ℕ → List ℕ → Type 0
+  FedStands x bytes given = StandsFor so_far (state x) bytes given × IsFeeder × (symbol_length (state x).settings ≡ size)

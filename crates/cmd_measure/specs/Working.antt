@@ -1,13 +1,12 @@
 -- The work of `measure` on cells, with settings s.
-use Rattle.std.specs.Prelude.{◌≡◌, ◌⊎◌, ℕ, ◌^◌, ◌<◌, Bool, false, List, [], ◌++◌, map, Some}
-use Rattle.std.specs.List.{concat}
+use Rattle.std.specs.Prelude.{◌≡◌, ◌⊎◌, ℕ, Bool, false, List, [], map, Some}
 use Rattle.arrayvec.specs.ArrayString.{ArrayString}
 use Rattle.station_core.specs.Meaning.{Meaning}
 use Rattle.station_core.specs.declared.ports.OutPort.{OutPort}
 use Rattle.station_core.specs.declared.ports.OutPort.TheVariants as outs
 use Rattle.mode_set.specs.declared.settings.Settings.{Settings}
 use Rattle.frame_build.specs.CellFile.{header}
-use Rattle.reception.specs.Cells.{symbol_length, symbols}
+use Rattle.reception.specs.Cells.{symbol_length}
 use Rattle.measurement.specs.Lines.{MeasureLive, MeasureFinal}
 use Rattle.cmd_base.specs.declared.refusal.Refusal.TheVariants.{Memory}
 use Rattle.cmd_base.specs.Text.{refusal_text}
@@ -45,19 +44,6 @@ measuring_work s = record {
   Refuses = λ bytes left given r. ⊥;
   Reasons = λ r. ⊥;
 }
-
--- a measurer that may take another piece: it has had fewer than 2^32 symbols
-pub record GoesOn (s : Settings) (standing : List ℕ → List ℕ → Type 0) : Type 0 where
-  pub bytes : List ℕ
-  pub given : List ℕ
-  pub stands : standing bytes given
-  pub few : symbols s bytes < 2 ^ 32
-
--- after one more piece the measurer matches all bytes and the lines given before and now
-pub record Takes (standing : List ℕ → List ℕ → Type 0) (s : Settings) (bytes piece given : List ℕ)
-    (lines : List (List ℕ)) : Type 0 where
-  pub stands : standing (bytes ++ piece) (given ++ concat lines)
-  pub live : MeasureLive s (bytes ++ piece) (given ++ concat lines)
 
 -- the work was done on the cells, or memory was lacking before a port was requested
 abbrev pub RunsOrLacks : Settings → List ℕ → Meaning → Meaning → ℕ → Type 0

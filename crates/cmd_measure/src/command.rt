@@ -8,7 +8,6 @@ ghost use Rattle.cmd_measure.specs.Feeder.{IsFed};
 ghost use Rattle.cmd_measure.specs.MeasureCommand.{measure_command, no_names};
 ghost use Rattle.cmd_measure.specs.Working.{RunsOrLacks};
 
-use crate::measurers::MeasurerWithLines;
 use crate::measuring_work::MeasuringWork;
 use crate::no_files::NoFiles;
 use cmd_base::{Limits, Refusal, read_settings, refuse};
@@ -49,12 +48,10 @@ fn measure_in<'a, 'r, M: Carriers, R: Threads + Sync, G: Gate, S: Station<'a>>(
         ensures { IsFed (5 * M.K) measurer.entry.now piece.entry.now measurer.exit.now out.exit.now result }
     { measurer.feed_gated(rt, gate, piece, out) };
     let mut work = MeasuringWork {
-        measurer: MeasurerWithLines {
-            rt,
-            feeder,
-            measurer,
-            out,
-        },
+        rt,
+        feeder,
+        measurer,
+        out,
     };
     run_cells(
         settings.max_symbols,

@@ -4,7 +4,6 @@
 //! that defines them, one write for each. The report is the only output. The call has the promise of a run.
 #![tactic(auto)]
 
-mod cell_measurer;
 mod command;
 mod measurers;
 mod measuring_work;

@@ -41,26 +41,6 @@ fn modulate_in<'a, M: Carriers, S: Station<'a>>(
     run_modulation(names, limits, settings, &mut tx, &mut bytes, station)
 }
 
-// The same in the mode of the settings.
-fn modulate_accepted<'a, S: Station<'a>>(
-    alloc: Global,
-    settings: &Settings,
-    names: Names<'a>,
-    limits: &Limits,
-    station: &mut S,
-) -> u8
-    requires form { fits_form settings.now (option_copied names.lp) ≡ true }
-    requires few { limits.now.packets ≤ 100000000 }
-    requires ready { IsReady (S.meaning station.old) }
-    ensures { RunsOrLacks settings.now limits.now.packets names.entry.hp.now (option_copied names.entry.lp)
-        names.entry.cells.now (S.meaning station.old) (S.meaning station.new) result }
-{
-    match settings.mode {
-        Mode::M2k => modulate_in::<Mode2k, S>(alloc, settings, names, limits, station),
-        Mode::M8k => modulate_in::<Mode8k, S>(alloc, settings, names, limits, station),
-    }
-}
-
 /// Runs `modulate SETTINGS HP CELLS` or, with an LP file, `modulate SETTINGS HP LP CELLS`, and returns its status.
 ///
 /// The settings are read and checked, and then all memory is allocated, before another port is requested.
@@ -81,7 +61,10 @@ pub fn modulate<'a, S: Station<'a>>(
     match read_fitting(alloc, settings, lp, station) {
         Ok(accepted) => {
             let names = Names { hp, lp, cells };
-            modulate_accepted(alloc, &accepted, names, limits, station)
+            match accepted.mode {
+                Mode::M2k => modulate_in::<Mode2k, S>(alloc, &accepted, names, limits, station),
+                Mode::M8k => modulate_in::<Mode8k, S>(alloc, &accepted, names, limits, station),
+            }
         }
         Err(refusal) => refuse(&refusal, station),
     }

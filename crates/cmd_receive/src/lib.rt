@@ -2,7 +2,8 @@
 //!
 //! The cells are read symbol by symbol and passed to a receiver. After each symbol its output is written: the packets
 //! of HP, those of LP, and the lines of its unmerged reports. The call has the promise of a run. The work on the
-//! symbols, [`ReceptionWork`], serves every command that receives in this way; other kinds of reception use its writing.
+//! symbols, [`ReceptionWork`], serves every command that receives in this way; other kinds of reception use the
+//! writing.
 #![tactic(auto)]
 
 mod command;

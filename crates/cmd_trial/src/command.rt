@@ -43,25 +43,6 @@ fn trial_in<'a, M: Carriers, R: Threads + Sync, G: Gate, S: Station<'a>>(
     }
 }
 
-// The same in the mode of the settings, from zero.
-fn trial_accepted<'a, R: Threads + Sync, G: Gate, S: Station<'a>>(
-    rt: &R,
-    alloc: Global,
-    gate: &G,
-    settings: &Settings,
-    number: u32,
-    station: &mut S,
-) -> u8
-    requires ready { IsReady (S.meaning station.old) }
-    ensures { RunsOrLacks (at_zero settings.now) number (S.meaning station.old) (S.meaning station.new) result }
-{
-    let zero = from_zero(settings);
-    match zero.mode {
-        Mode::M2k => trial_in::<Mode2k, R, G, S>(rt, alloc, gate, &zero, number, station),
-        Mode::M8k => trial_in::<Mode8k, R, G, S>(rt, alloc, gate, &zero, number, station),
-    }
-}
-
 /// Runs `trial SETTINGS NUMBER` and returns its status.
 ///
 /// The settings are read and checked, and then all memory is allocated. A trial is refused if no number of super-frames
@@ -82,7 +63,13 @@ pub fn trial<'a, R: Threads + Sync, G: Gate, S: Station<'a>>(
 {
     trial::workers::workers();
     match read_settings(alloc, settings, station) {
-        Ok(accepted) => trial_accepted(rt, alloc, gate, &accepted, number, station),
+        Ok(accepted) => {
+            let zero = from_zero(&accepted);
+            match zero.mode {
+                Mode::M2k => trial_in::<Mode2k, R, G, S>(rt, alloc, gate, &zero, number, station),
+                Mode::M8k => trial_in::<Mode8k, R, G, S>(rt, alloc, gate, &zero, number, station),
+            }
+        }
         Err(refusal) => refuse(&refusal, station),
     }
 }

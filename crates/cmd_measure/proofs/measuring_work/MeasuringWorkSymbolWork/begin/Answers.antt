@@ -10,7 +10,7 @@ use Rattle.cmd_measure.proofs.measuring_work.MeasuringWorkSymbolWork.begin.Goals
 pub returns-clause-begins : goal.returns-clause-begins
 returns-clause-begins g c =
     let m : Meaning = g.S.Station.meaning c.args._station.now in
-    let s : Settings = g.X.CellMeasurer.settings c.args.self.now.measurer in
+    let s : Settings = (g.T.ModeMeasurer.state c.args.self.now.measurer).settings in
     record {
       after = printed [];
       more = printed [];
