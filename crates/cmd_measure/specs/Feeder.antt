@@ -29,4 +29,5 @@ module _ {F T : Type 0} (size : ℕ) (state : T → MeasurerState)
 
   -- the measurer x, fed by f, has had these bytes and has given these lines
   abbrev pub FedStands : T → List ℕ → List ℕ → Type 0
-  FedStands x bytes given = StandsFor so_far (state x) bytes given × IsFeeder × (symbol_length (state x).settings ≡ size)
+  FedStands x bytes given = StandsFor so_far (state x) bytes given × IsFeeder
+      × (symbol_length (state x).settings ≡ size)

@@ -10,8 +10,8 @@ use measurer::{MeasureOut, Measurer};
 use mode_set::Carriers;
 use std::thread::Threads;
 
-/// The measurer of a mode. The work feeds it by a closure that it holds, as the kit refuses a trait's method with a gate
-/// there: its bound would be assumed of one thread alone.
+/// The measurer of a mode. The work feeds it by a closure that it holds: the kit refuses a trait's method with a gate
+/// there, as its bound would be assumed of one thread alone.
 pub(crate) trait ModeMeasurer {
     /// Its visible state, and the bytes of a symbol.
     ghost state: { Self → MeasurerState };

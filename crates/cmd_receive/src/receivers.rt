@@ -15,8 +15,8 @@ use rx_report::Counts;
 use std::alloc::Global;
 use std::thread::Threads;
 
-/// The receiver of a mode. The work feeds it by a closure that it holds, as the kit refuses a trait's method with a gate
-/// there: its bound would be assumed of one thread alone.
+/// The receiver of a mode. The work feeds it by a closure that it holds: the kit refuses a trait's method with a gate
+/// there, as its bound would be assumed of one thread alone.
 pub trait ModeReceiver {
     ghost state: { Self → ReceiverState };
 
