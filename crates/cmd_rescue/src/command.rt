@@ -20,6 +20,8 @@ use std::alloc::Global;
 use std::thread::Threads;
 
 // Allocates the memory for a mode's receiver and one symbol, and runs the reception.
+// Not inlined: the decoders' values lie in its frame, and the settings are read on a smaller stack.
+#[inline(never)]
 fn rescue_in<'a, 'r, M: Carriers, R: Threads + Sync, S: Station<'a>>(
     rt: &'r R,
     alloc: Global,

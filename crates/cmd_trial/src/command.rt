@@ -25,6 +25,8 @@ fn from_zero(settings: &Settings) -> Settings
 }
 
 // Allocates the memory for a mode's trial, and runs it.
+// Not inlined: the trial lies in its frame, and the settings are read on a smaller stack.
+#[inline(never)]
 fn trial_in<'a, M: Carriers, R: Threads + Sync, G: Gate, S: Station<'a>>(
     rt: &R,
     alloc: Global,
