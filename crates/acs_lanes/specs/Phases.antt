@@ -6,7 +6,7 @@ use Rattle.std.specs.List.{range_with_len}
 use Rattle.spec_words.specs.Bits.{is_set}
 use Rattle.code_paths.specs.declared.costs.CostPair.{CostPair}
 use Rattle.acs_lanes.specs.Lanes.{AreSteps, cost_from, four}
-use Rattle.acs_lanes.specs.Lanes16.{joined, way}
+use Rattle.acs_lanes.specs.Lanes16.{joined, way, word_by}
 
 -- the bits of k of these numbers, as those of a lane of two vectors, from bit 4 down
 abbrev pub lane_by : ℕ → ℕ → ℕ → ℕ → ℕ → ℕ → ℕ
@@ -45,6 +45,10 @@ pub record IsWordStep (pair : CostPair) (old new : List ℕ) (word : ℕ) : Type
       ≡ min (slice_index old (2 * k) + cost_from pair 0 true k) (slice_index old (2 * k + 1) + cost_from pair 1 true k)
   pub high_odd : (k : ℕ) → k < 32 → is_set word (k + 32) ≡ nat_lt (slice_index old (2 * k + 1) + cost_from pair 1 true
       k) (slice_index old (2 * k) + cost_from pair 0 true k)
+
+-- the four sums of a pair as one word
+abbrev pub sum_word : CostPair → ℕ
+sum_word pair = word_by (pair.x0 + pair.y0) (pair.x0 + pair.y1) (pair.x1 + pair.y0) (pair.x1 + pair.y1)
 
 -- the four sums of a pair, four times
 abbrev pub all_sums : CostPair → List ℕ

@@ -10,6 +10,7 @@
 //! to and from each state, for whoever needs these themselves.
 #![tactic(auto)]
 
+mod cost_sums;
 mod lanes;
 mod lanes16;
 mod phases;

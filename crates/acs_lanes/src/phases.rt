@@ -7,20 +7,8 @@ ghost use Rattle.acs_lanes.specs.Phases.{AreCostsIn, AreTurnedIn, all_sums, by_h
 ghost use Rattle.acs_lanes.specs.Phases.{lower_eights, lower_fours, next, ordered, upper_eights, upper_fours, way_in};
 
 use crate::lanes16::Lanes;
-use crate::step16::repeated;
-use conv_code::CostPair;
 use std::simd::cmp::SimdPartialOrd;
 use std::simd::{u8x16, u8x32, u16x16};
-
-/// The sums of a cost of X and one of Y, by 2X + Y, four times.
-#[inline(always)]
-pub(crate) fn all_sums(pair: CostPair) -> u16x16
-    ensures { result ≡ all_sums pair }
-{
-    let costs = repeated(pair);
-    costs.swizzle([0, 0, 1, 1, 0, 0, 1, 1, 8, 8, 9, 9, 8, 8, 9, 9])
-        + costs.swizzle([2, 3, 2, 3, 2, 3, 2, 3, 10, 11, 10, 11, 10, 11, 10, 11])
-}
 
 /// The costs of the steps from the even states on 0, as from the odd ones on 1, and of the others: of the first
 /// vectors, and
