@@ -17,3 +17,4 @@ pub mod PhaseMarks
 pub mod PhaseCosts
 pub mod PhaseTurns
 pub mod Rows16
+pub mod Orders

@@ -5,7 +5,7 @@ use Rattle.code_paths.specs.declared.costs.CostPair.{CostPair}
 use Rattle.acs_plain.specs.declared.sums.Sums.{Sums}
 use Rattle.acs_plain.specs.Steps.{AreSteps, IsStep}
 use Rattle.acs_plain.proofs.Rows.{steps_append}
-use Rattle.acs_lanes.specs.Phases.{sum_word}
+use Rattle.acs_lanes.specs.Phases.{in_order, sum_word}
 
 module _ {X : Type 0} where
   take_two : (xs : List X) (n : ℕ) (d : X) → n + 2 ≤ length xs → take (n + 2) xs ≡ take n xs ++ get_or xs n d ∷ get_or xs (n + 1) d ∷ []
@@ -63,10 +63,10 @@ module _ (ws : List ℕ) (at v w : ℕ) (l : at + 2 ≤ length ws) where
       let q : k ≢ at = omega (arith, m) in
       get_or-set_other (slice_set ws at v) (at + 1) k w 0 p ∙ get_or-set_other ws at k v 0 q
 
-  pub two_steps : (s0 s1 s2 : Sums) (x y : CostPair) → IsStep s0 x s1 v → IsStep s1 y s2 w → AreSteps s0 (x ∷ y ∷ []) s2 (get_or written at 0 ∷ get_or written (at + 1) 0 ∷ [])
-  two_steps s0 s1 s2 x y s t =
-      let h : AreSteps s0 (x ∷ y ∷ []) s2 (v ∷ w ∷ []) = (s1, s, (s2, t, refl)) in
-      subst (λ z. AreSteps s0 (x ∷ y ∷ []) s2 z) (ap₂ (λ a b. a ∷ b ∷ []) (sym first_written) (sym last_written)) h
+  pub two_steps : (s0 s1 s2 : Sums) (x y : CostPair) (p q : ℕ) → IsStep s0 x s1 (in_order p v) → IsStep s1 y s2 (in_order q w) → AreSteps s0 (x ∷ y ∷ []) s2 (in_order p (get_or written at 0) ∷ in_order q (get_or written (at + 1) 0) ∷ [])
+  two_steps s0 s1 s2 x y p q s t =
+      let h : AreSteps s0 (x ∷ y ∷ []) s2 (in_order p v ∷ in_order q w ∷ []) = (s1, s, (s2, t, refl)) in
+      subst (λ z. AreSteps s0 (x ∷ y ∷ []) s2 z) (ap₂ (λ a b. in_order p a ∷ in_order q b ∷ []) (sym first_written) (sym last_written)) h
 
 pub row_at : (m n : ℕ) → m ≡ n → (old : Sums) (ps : List CostPair) (new : Sums) (ws : List ℕ) → AreSteps old (take m ps) new (take m ws) → AreSteps old (take n ps) new (take n ws)
 row_at m n e old ps new ws h = subst (λ n. AreSteps old (take n ps) new (take n ws)) e h

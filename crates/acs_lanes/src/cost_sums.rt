@@ -4,6 +4,7 @@ ghost use Rattle.std.specs.Prelude.{◌≡◌, ◌*◌, ◌/◌, ◌<◌, ◌≤
 ghost use Rattle.code_paths.specs.declared.costs.CostPair.{CostPair as Pair};
 ghost use Rattle.acs_lanes.specs.Phases.{all_sums, sum_word};
 
+use crate::fours::store;
 use crate::step16::word_of;
 use conv_code::CostPair;
 use std::simd::{u16x16, u64x4};
@@ -19,28 +20,6 @@ fn four_sums(a: CostPair, b: CostPair, c: CostPair, d: CostPair) -> u64x4
     let sums = costs.swizzle([0, 0, 1, 1, 4, 4, 5, 5, 8, 8, 9, 9, 12, 12, 13, 13])
         + costs.swizzle([2, 3, 2, 3, 6, 7, 6, 7, 10, 11, 10, 11, 14, 15, 14, 15]);
     u64x4::from_le_bytes(sums.to_le_bytes())
-}
-
-/// Writes four words.
-#[inline(always)]
-fn write(words: &mut [u64], lanes: u64x4)
-    requires size { length words.old ≡ 4 }
-    requires lanes { length lanes ≡ 4 }
-    ensures { words.new ≡ lanes }
-{
-    lanes.copy_to_slice(words);
-}
-
-/// Writes four words from a place on.
-#[inline(always)]
-fn store(words: &mut [u64], from: usize, lanes: u64x4)
-    requires from { from + 4 ≤ length words.old }
-    requires lanes { length lanes ≡ 4 }
-    ensures here { (k : ℕ) → k < 4 → slice_index words.new (from + k) ≡ slice_index lanes k }
-    ensures below { (k : ℕ) → k < from → slice_index words.new k ≡ slice_index words.old k }
-    ensures room { length words.new ≡ length words.old }
-{
-    write(&mut words[from..from + 4], lanes);
 }
 
 /// Writes each step's sums, by fours as far as there are such.

@@ -11,6 +11,7 @@
 #![tactic(auto)]
 
 mod cost_sums;
+mod fours;
 mod lanes;
 mod lanes16;
 mod phases;
@@ -19,6 +20,7 @@ mod six;
 mod slices;
 mod step16;
 mod totals;
+mod word_order;
 
 pub use lanes::LaneAcs;
 pub use totals::{backward, forward};

@@ -4,23 +4,25 @@ ghost use Rattle.code_paths.specs.declared.costs.CostPair.{CostPair as Pair};
 ghost use Rattle.acs_plain.specs.Spread.{IsSpread};
 ghost use Rattle.acs_plain.specs.Steps.{AreSteps};
 ghost use Rattle.acs_lanes.specs.Lanes16.{all_with, joined, laid};
-ghost use Rattle.acs_lanes.specs.Phases.{IsWordStep, all_sums, laid_in, next, sum_word};
+ghost use Rattle.acs_lanes.specs.Phases.{IsWordStep, all_sums, in_order, laid_in, next, sum_word};
 
 use crate::cost_sums::{sums_in, write_sums};
 use crate::lanes16::{Lanes, lowered};
 use crate::phases::{costs_in, turned_in, word_in};
 use crate::step16::pick;
+use crate::word_order::order_words;
 use conv_code::CostPair;
 use std::simd::u16x16;
 
-/// The step over all states in a phase: the new costs, and a bit for each state that the odd way leads to.
+/// The step over all states in a phase: the new costs, and a bit for each state that the odd way leads to, in the order of
+/// the phase.
 #[inline(always)]
 fn step_in(phase: usize, old: Lanes, sums: u16x16) -> (Lanes, u64)
     requires phase { phase < 6 }
     requires fit { (n : ℕ) → n < 64 → slice_index (joined old.a old.b old.c old.d) n ≤ 57345 }
     requires sums { (pair : Pair) × (sums ≡ all_sums pair) }
     ensures step { (pair : Pair) → sums ≡ all_sums pair → IsWordStep pair (laid_in phase old.a old.b old.c old.d)
-        (laid_in (next phase) result.0.a result.0.b result.0.c result.0.d) result.1 }
+        (laid_in (next phase) result.0.a result.0.b result.0.c result.0.d) (in_order phase result.1) }
 {
     let (zero_first, one_first, zero_last, one_last) = costs_in(phase, sums);
     let (low_first, low_first_even) = pick(old.a, zero_first, old.c, one_first);
@@ -39,7 +41,7 @@ fn step_in(phase: usize, old: Lanes, sums: u16x16) -> (Lanes, u64)
     )
 }
 
-/// Two steps, whose words have the sums of their costs before and their decisions after. First the lanes are made such
+/// Two steps, whose words have the sums of their costs before and their decisions after, in the order of the phases. First the lanes are made such
 /// that the costs of both may be added.
 #[inline(always)]
 fn two_in(phase: usize, from: Lanes, words: &mut [u64], at: usize) -> Lanes
@@ -52,7 +54,7 @@ fn two_in(phase: usize, from: Lanes, words: &mut [u64], at: usize) -> Lanes
         → slice_index words.old (at + 1) ≡ sum_word y → AreSteps (all_with
         (laid_in phase from.a from.b from.c from.d)) (x ∷ y ∷ []) (all_with
         (laid_in (next (phase + 1)) result.a result.b result.c result.d))
-        (slice_index words.new at ∷ slice_index words.new (at + 1) ∷ []) }
+        (in_order phase (slice_index words.new at) ∷ in_order (phase + 1) (slice_index words.new (at + 1)) ∷ []) }
     ensures spread { IsSpread (all_with (laid_in (next (phase + 1)) result.a result.b result.c result.d)) }
     ensures below { (k : ℕ) → k < at → slice_index words.new k ≡ slice_index words.old k }
     ensures above { (k : ℕ) → at + 2 ≤ k → slice_index words.new k ≡ slice_index words.old k }
@@ -84,5 +86,6 @@ pub(crate) fn run_twelves(from: Lanes, pairs: &[CostPair], words: &mut [u64]) ->
         let fourth = two_in(2, second, words, 6 * k + 2);
         lanes = two_in(4, fourth, words, 6 * k + 4);
     }
+    order_words(words);
     lanes
 }

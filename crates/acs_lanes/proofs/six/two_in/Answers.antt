@@ -1,4 +1,4 @@
-use Rattle.std.proofs.Common.{◌∙◌, ◌<◌, arith, length-set}
+use Rattle.std.proofs.Common.{◌∙◌, ◌+◌, ◌<◌, arith, length-set}
 use Rattle.acs_lanes.proofs.PhaseTables.{close_in}
 use Rattle.acs_lanes.proofs.PhaseTurns.{first_step, grown_in, second_step}
 use Rattle.acs_lanes.proofs.Rows16.{above_written, below_written, next_read, two_steps}
@@ -32,7 +32,7 @@ returns-clause-steps c = λ x y ex ey.
     let s1 = first_step c.args.phase in6 f.a f.b f.c f.d r.a r.b r.c r.d m.a m.b m.c m.d _ _ c.lowered.ensures.lowered first in
     let fit = grown_in c.args.phase in6 r.a r.b r.c r.d m.a m.b m.c m.d _ _ 49155 first c.lowered.ensures.room in
     let s2 = second_step c.args.phase c.requires.phase m.a m.b m.c m.d t.a t.b t.c t.d _ _ fit (c.step_in-last_word.ensures.step y (c.sums_in-2.ensures y (next_read c.args.words.now c.args.at c.step_in-first_word.result.1 ∙ ey))) in
-    two_steps c.args.words.now c.args.at _ _ c.requires.more _ _ _ x y s1 s2
+    two_steps c.args.words.now c.args.at _ _ c.requires.more _ _ _ x y c.args.phase (c.args.phase + 1) s1 s2
 
 pub returns-clause-spread : goal.returns-clause-spread
 returns-clause-spread c =
