@@ -1,10 +1,13 @@
 -- Words whose bits are put in the order of states.
-use Rattle.std.proofs.Common.{◌≡◌, ℕ, zero, suc, ◌+◌, ◌-◌, ◌*◌, ◌/◌, ◌%◌, ◌^◌, ◌<◌, ◌≤◌, ◌⊎◌, inl, inr, List, [], ◌∷◌, length, get_or, refl, sym, ap, ap₂, ◌∙◌, subst, arith, bit_and}
+use Rattle.std.proofs.Common.{◌≡◌, ℕ, zero, suc, ◌+◌, ◌-◌, ◌*◌, ◌/◌, ◌%◌, ◌^◌, ◌<◌, ◌≤◌, ◌⊎◌, inl, inr, List, [], ◌∷◌, map, length, get_or, refl, sym, ap, ap₂, ◌∙◌, subst, arith, bit_and}
 use Rattle.std.proofs.lemmas.Bool.{cases_lt}
 use Rattle.std.proofs.lemmas.Simd.{get_or-zip2, length-zip2}
+use Rattle.std.proofs.lemmas.List.{length-map}
+use Rattle.std.specs.Int.{bit_not, w64}
 use Rattle.std.specs.Int.Bits.{bit_xor}
 use Rattle.std.specs.Simd.Lanes.{zip2, Each2}
 use Rattle.acs_lanes.specs.Phases.{differ, in_order, moved_by}
+use Rattle.acs_lanes.proofs.LaneLaws.{at_map}
 
 -- ---- four words
 
@@ -22,7 +25,13 @@ downs xs ss = zip2 (λ a b. a / 2 ^ b) xs ss
 abbrev ups : List ℕ → List ℕ → List ℕ
 ups xs ss = zip2 (λ a b. a * 2 ^ b % 18446744073709551616) xs ss
 
-module _ (words shifts masks : List ℕ) (lw : length words ≡ 4) (ls : length shifts ≡ 4) (lm : length masks ≡ 4) where
+module _ (before shifts masks : List ℕ) (lb : length before ≡ 4) (ls : length shifts ≡ 4) (lm : length masks ≡ 4) where
+  abbrev words : List ℕ
+  words = map (bit_not w64) before
+
+  lw : length words ≡ 4
+  lw = length-map before (bit_not w64) ∙ lb
+
   abbrev pub differs : List ℕ
   differs = zip2 bit_and (xors (downs words shifts) words) masks
 
@@ -55,16 +64,17 @@ module _ (words shifts masks : List ℕ) (lw : length words ≡ 4) (ls : length 
         get_or-zip2 bit_xor (downs words shifts) words k 0 0 0 (omega (arith, downs_len, l)) (omega (arith, lw, l))
         ∙ ap (λ z. bit_xor z (get_or words k 0)) (get_or-zip2 (λ a b. a / 2 ^ b) words shifts k 0 0 0 (omega (arith, lw, l)) (omega (arith, ls, l))))
 
-    pub moved_at : get_or moved_four k 0 ≡ moved_by (get_or shifts k 0) (get_or masks k 0) (get_or words k 0)
+    pub moved_at : get_or moved_four k 0 ≡ moved_by (get_or shifts k 0) (get_or masks k 0) (bit_not w64 (get_or before k 0))
     moved_at =
         get_or-zip2 bit_xor (xors words differs) (ups differs shifts) k 0 0 0 (omega (arith, low_len, l)) (omega (arith, ups_len, l))
         ∙ ap₂ bit_xor (get_or-zip2 bit_xor words differs k 0 0 0 (omega (arith, lw, l)) (omega (arith, differs_len, l)) ∙ ap (bit_xor (get_or words k 0)) differs_at)
         (get_or-zip2 (λ a b. a * 2 ^ b % 18446744073709551616) differs shifts k 0 0 0 (omega (arith, differs_len, l)) (omega (arith, ls, l)) ∙ ap (λ z. z * 2 ^ get_or shifts k 0 % 18446744073709551616) differs_at)
+        ∙ ap (moved_by (get_or shifts k 0) (get_or masks k 0)) (at_map (bit_not w64) before k (omega (arith, lb, l)))
 
 -- ---- twelve words, four at a time
 
 abbrev pub all_moved : ℕ → List ℕ → List ℕ → List ℕ → List ℕ → Type 0
-all_moved from shifts masks old new = (k : ℕ) → k < 4 → get_or new (from + k) 0 ≡ moved_by (get_or shifts k 0) (get_or masks k 0) (get_or old (from + k) 0)
+all_moved from shifts masks old new = (k : ℕ) → k < 4 → get_or new (from + k) 0 ≡ moved_by (get_or shifts k 0) (get_or masks k 0) (bit_not w64 (get_or old (from + k) 0))
 
 abbrev pub same_below_of : ℕ → List ℕ → List ℕ → Type 0
 same_below_of from old new = (k : ℕ) → k < from → get_or new k 0 ≡ get_or old k 0
@@ -78,7 +88,7 @@ module _ (w0 w1 w2 w3 : List ℕ) (at : ℕ) (a : all_moved at (1 ∷ 8 ∷ 12 �
   first : (k : ℕ) → k < 4 → get_or w3 (at + k) 0 ≡ in_order k (get_or w0 (at + k) 0)
   first k l = low_c (at + k) (omega (arith, l)) ∙ low_b (at + k) (omega (arith, l)) ∙ a k l ∙ by k l
     where
-      by : (k : ℕ) → k < 4 → moved_by (get_or (1 ∷ 8 ∷ 12 ∷ 14 ∷ []) k 0) (get_or (0 ∷ 280375465148160 ∷ 264913582878960 ∷ 225176545447116 ∷ []) k 0) (get_or w0 (at + k) 0) ≡ in_order k (get_or w0 (at + k) 0)
+      by : (k : ℕ) → k < 4 → moved_by (get_or (1 ∷ 8 ∷ 12 ∷ 14 ∷ []) k 0) (get_or (0 ∷ 280375465148160 ∷ 264913582878960 ∷ 225176545447116 ∷ []) k 0) (bit_not w64 (get_or w0 (at + k) 0)) ≡ in_order k (get_or w0 (at + k) 0)
       by zero l = refl
       by (suc zero) l = refl
       by (suc (suc zero)) l = refl
@@ -88,7 +98,7 @@ module _ (w0 w1 w2 w3 : List ℕ) (at : ℕ) (a : all_moved at (1 ∷ 8 ∷ 12 �
   middle : (k : ℕ) → k < 4 → get_or w3 (at + 4 + k) 0 ≡ in_order ((4 + k) % 6) (get_or w0 (at + 4 + k) 0)
   middle k l = low_c (at + 4 + k) (omega (arith, l)) ∙ b k l ∙ by k l ∙ ap (in_order ((4 + k) % 6)) (up_a (at + 4 + k) (omega arith))
     where
-      by : (k : ℕ) → k < 4 → moved_by (get_or (15 ∷ 15 ∷ 1 ∷ 8 ∷ []) k 0) (get_or (187647121205930 ∷ 187647121205930 ∷ 0 ∷ 280375465148160 ∷ []) k 0) (get_or w1 (at + 4 + k) 0) ≡ in_order ((4 + k) % 6) (get_or w1 (at + 4 + k) 0)
+      by : (k : ℕ) → k < 4 → moved_by (get_or (15 ∷ 15 ∷ 1 ∷ 8 ∷ []) k 0) (get_or (187647121205930 ∷ 187647121205930 ∷ 0 ∷ 280375465148160 ∷ []) k 0) (bit_not w64 (get_or w1 (at + 4 + k) 0)) ≡ in_order ((4 + k) % 6) (get_or w1 (at + 4 + k) 0)
       by zero l = refl
       by (suc zero) l = refl
       by (suc (suc zero)) l = refl
@@ -98,7 +108,7 @@ module _ (w0 w1 w2 w3 : List ℕ) (at : ℕ) (a : all_moved at (1 ∷ 8 ∷ 12 �
   last : (k : ℕ) → k < 4 → get_or w3 (at + 8 + k) 0 ≡ in_order ((8 + k) % 6) (get_or w0 (at + 8 + k) 0)
   last k l = c k l ∙ by k l ∙ ap (in_order ((8 + k) % 6)) (up_b (at + 8 + k) (omega arith) ∙ up_a (at + 8 + k) (omega arith))
     where
-      by : (k : ℕ) → k < 4 → moved_by (get_or (12 ∷ 14 ∷ 15 ∷ 15 ∷ []) k 0) (get_or (264913582878960 ∷ 225176545447116 ∷ 187647121205930 ∷ 187647121205930 ∷ []) k 0) (get_or w2 (at + 8 + k) 0) ≡ in_order ((8 + k) % 6) (get_or w2 (at + 8 + k) 0)
+      by : (k : ℕ) → k < 4 → moved_by (get_or (12 ∷ 14 ∷ 15 ∷ 15 ∷ []) k 0) (get_or (264913582878960 ∷ 225176545447116 ∷ 187647121205930 ∷ 187647121205930 ∷ []) k 0) (bit_not w64 (get_or w2 (at + 8 + k) 0)) ≡ in_order ((8 + k) % 6) (get_or w2 (at + 8 + k) 0)
       by zero l = refl
       by (suc zero) l = refl
       by (suc (suc zero)) l = refl

@@ -1,11 +1,12 @@
 -- A word of the lanes that have no mark, in each phase.
-use Rattle.std.proofs.Common.{◌≡◌, ℕ, zero, suc, ◌+◌, ◌-◌, ◌*◌, ◌/◌, ◌%◌, ◌^◌, ◌<◌, Bool, true, false, cond, not, ◌&&◌, List, ◌++◌, length, map, get_or, replicate, refl, sym, ap, ap₂, ◌∙◌, subst, arith, bit_or, eqb, ltb, true≢false, w8, mod-lt}
+use Rattle.std.proofs.Common.{◌≡◌, ℕ, zero, suc, ◌+◌, ◌-◌, ◌*◌, ◌/◌, ◌%◌, ◌^◌, ◌<◌, Bool, true, false, cond, not, ◌&&◌, List, ◌++◌, length, map, get_or, replicate, refl, sym, ap, ap₂, ◌∙◌, subst, arith, bit_or, eqb, ltb, true≢false, w8, mod-lt, lit<}
 use Rattle.std.proofs.lemmas.Bool.{eqb-true, ltb-false}
 use Rattle.std.proofs.lemmas.List.{get_or_append_left}
+use Rattle.std.proofs.lemmas.Nat.{or_lt}
 use Rattle.std.proofs.lemmas.Nat.Bits.{bit_at_cat_high, bit_at_xor, bit_at-lt}
 use Rattle.std.proofs.lemmas.Simd.{bitmask_splat, bit_mask_l, mask_l-lt}
 use Rattle.std.specs.Bool.{nat_lt}
-use Rattle.std.specs.Int.{bit_at}
+use Rattle.std.specs.Int.{bit_at, bit_not, w64}
 use Rattle.std.specs.Int.Bits.{bit_xor}
 use Rattle.std.specs.Prelude.{slice_index}
 use Rattle.std.specs.Simd.Lanes.{zip2, mask_l, top}
@@ -13,7 +14,7 @@ use Rattle.code_paths.proofs.Registers.{all_below, all_below_at}
 use Rattle.code_paths.proofs.Words.{pow-pos, set_and, set_shl, whole}
 use Rattle.spec_words.specs.Bits.{is_set, xor}
 use Rattle.acs_lanes.specs.Lanes16.{AreMarks}
-use Rattle.acs_lanes.specs.Phases.{by_halves, byte_of, differ, exchanged, in_order, moved_by, ordered, way_in}
+use Rattle.acs_lanes.specs.Phases.{by_halves, byte_of, differ, exchanged, in_order, mask_in, moved_by, ordered, shift_in, way_in}
 use Rattle.acs_lanes.proofs.LaneLaws.{set_low_word, set_high_word}
 use Rattle.acs_lanes.proofs.Laid.{at_range}
 use Rattle.acs_lanes.proofs.Marks.{below_half, byte_at, holds_at, one}
@@ -126,9 +127,9 @@ moved s mask to t x n l =
     (set_shl (differ s mask x) s n l ∙ ap (λ z. not (nat_lt n s) && z) (differ_at s mask x (n - s)))
     ∙ taken x (to n) n s (is_set mask n) (nat_lt n s) (is_set mask (n - s)) (not_below n s) (all_below_at (λ n. fits (to n) n s (is_set mask n) (nat_lt n s) (is_set mask (n - s))) 64 n t l)
 
-pub in_order_at : (p : ℕ) → p < 6 → (x n : ℕ) → n < 64 → is_set (in_order p x) n ≡ is_set x (exchanged p n)
-in_order_at =
-    by_phase (λ p. (x n : ℕ) → n < 64 → is_set (in_order p x) n ≡ is_set x (exchanged p n)) (moved 1 0 (exchanged 0) refl) (moved 8 280375465148160 (exchanged 1) refl) (moved 12 264913582878960 (exchanged 2) refl)
+moved_in : (p : ℕ) → p < 6 → (x n : ℕ) → n < 64 → is_set (moved_by (shift_in p) (mask_in p) x) n ≡ is_set x (exchanged p n)
+moved_in =
+    by_phase (λ p. (x n : ℕ) → n < 64 → is_set (moved_by (shift_in p) (mask_in p) x) n ≡ is_set x (exchanged p n)) (moved 1 0 (exchanged 0) refl) (moved 8 280375465148160 (exchanged 1) refl) (moved 12 264913582878960 (exchanged 2) refl)
     (moved 14 225176545447116 (exchanged 3) refl) (moved 15 187647121205930 (exchanged 4) refl) (moved 15 187647121205930 (exchanged 5) refl)
 
 -- bytes in the order of a phase
@@ -141,14 +142,22 @@ module _ (p : ℕ) (in6 : p < 6) (low high : ℕ) (small : low < 2 ^ 32) where
   abbrev both : ℕ
   both = bit_or low (high * 2 ^ 32 % 2 ^ 64)
 
-  pub low_bits : (is_odd : ℕ → Bool) → ((k : ℕ) → k < 32 → is_set low k ≡ is_odd (way_in p (exchanged p k))) → (k : ℕ) → k < 32 → is_set (in_order p both) k ≡ is_odd (way_in p k)
+  both_fits : both < 2 ^ 64
+  both_fits = or_lt 64 low (high * 2 ^ 32 % 2 ^ 64) (omega (arith, small)) (mod-lt (high * 2 ^ 32) (lit< tt))
+
+  ordered_at : (n : ℕ) → n < 64 → is_set (in_order p (bit_not w64 both)) n ≡ is_set both (exchanged p n)
+  ordered_at n l =
+      let twice : bit_not w64 (bit_not w64 both) ≡ both = omega (arith, both_fits) in
+      ap (λ z. is_set (moved_by (shift_in p) (mask_in p) z) n) twice ∙ moved_in p in6 both n l
+
+  pub low_bits : (is_odd : ℕ → Bool) → ((k : ℕ) → k < 32 → is_set low k ≡ is_odd (way_in p (exchanged p k))) → (k : ℕ) → k < 32 → is_set (in_order p (bit_not w64 both)) k ≡ is_odd (way_in p k)
   low_bits is_odd f k l =
       let s = exchanged_small p in6 k l in
-      in_order_at p in6 both k (omega arith) ∙ set_low_word 32 low high (exchanged p k) s (omega arith) ∙ f (exchanged p k) s ∙ ap (λ z. is_odd (way_in p z)) (exchanged_twice p in6 k l)
+      ordered_at k (omega arith) ∙ set_low_word 32 low high (exchanged p k) s (omega arith) ∙ f (exchanged p k) s ∙ ap (λ z. is_odd (way_in p z)) (exchanged_twice p in6 k l)
 
-  pub high_bits : (is_odd : ℕ → Bool) → ((k : ℕ) → k < 32 → is_set high k ≡ is_odd (way_in p (exchanged p k))) → (k : ℕ) → k < 32 → is_set (in_order p both) (k + 32) ≡ is_odd (way_in p k)
+  pub high_bits : (is_odd : ℕ → Bool) → ((k : ℕ) → k < 32 → is_set high k ≡ is_odd (way_in p (exchanged p k))) → (k : ℕ) → k < 32 → is_set (in_order p (bit_not w64 both)) (k + 32) ≡ is_odd (way_in p k)
   high_bits is_odd f k l =
       let s = exchanged_small p in6 k l in
       let e : exchanged p k + 32 - 32 ≡ exchanged p k = omega arith in
-      in_order_at p in6 both (k + 32) (omega arith) ∙ ap (is_set both) (exchanged_high p in6 k l)
+      ordered_at (k + 32) (omega arith) ∙ ap (is_set both) (exchanged_high p in6 k l)
       ∙ set_high_word 32 low high (exchanged p k + 32) small (omega arith) (omega (arith, s)) ∙ ap (is_set high) e ∙ f (exchanged p k) s ∙ ap (λ z. is_odd (way_in p z)) (exchanged_twice p in6 k l)

@@ -3,6 +3,7 @@ use Rattle.std.specs.Prelude.{◌≡◌, ℕ, zero, suc, ◌+◌, ◌-◌, ◌*�
 use Rattle.std.specs.Prelude.{length, map, slice_index}
 use Rattle.std.specs.Bool.{nat_lt}
 use Rattle.std.specs.List.{range_with_len}
+use Rattle.std.specs.Int.{bit_not, w64}
 use Rattle.std.specs.Int.Bits.{bit_xor, bit_and}
 use Rattle.spec_words.specs.Bits.{is_set}
 use Rattle.code_paths.specs.declared.costs.CostPair.{CostPair}
@@ -101,9 +102,9 @@ mask_in (suc (suc zero)) = 264913582878960
 mask_in (suc (suc (suc zero))) = 225176545447116
 mask_in (suc (suc (suc (suc p)))) = 187647121205930
 
--- a word of a phase with its bits in the order of states
+-- The decisions of a step in the order of states, from the word of a phase, whose bits are set if the even way was taken.
 abbrev pub in_order : ℕ → ℕ → ℕ
-in_order phase word = moved_by (shift_in phase) (mask_in phase) word
+in_order phase word = moved_by (shift_in phase) (mask_in phase) (bit_not w64 word)
 
 -- Bytes are put in order within each half of a vector, so bit 4 of a state's number is still the one that says which
 -- half.

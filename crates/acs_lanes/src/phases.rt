@@ -115,8 +115,9 @@ pub(crate) fn half_word(phase: usize, first: u8x16, last: u8x16) -> u64
     bytes.simd_lt(u8x32::splat(128)).to_bitmask()
 }
 
-/// The word of the states that the odd way leads to, by the marks of those below 32 and of the others, before its bits are
+/// The word of the states that the even way leads to, by the marks of those below 32 and of the others, before its bits are
 /// put in the order of states.
+// So they need no turning over here, which four words have together later.
 #[inline(always)]
 pub(crate) fn word_in(
     phase: usize,
@@ -133,7 +134,7 @@ pub(crate) fn word_in(
 {
     let low = half_word(phase, low_first, low_last);
     let high = half_word(phase, high_first, high_last);
-    low | high << 32
+    !(low | high << 32)
 }
 
 /// The lower four of each eight lanes of two vectors in turn, and the upper four.

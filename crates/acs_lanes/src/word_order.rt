@@ -1,12 +1,13 @@
 // The bits of decision words put in the order of states, four words at once.
 ghost use Rattle.std.specs.Prelude.{◌≡◌, ◌≤◌, ◌<◌, ◌+◌, ◌*◌, ◌/◌, ◌%◌, ℕ, length, slice_index};
+ghost use Rattle.std.specs.Int.{bit_not, w64};
 ghost use Rattle.acs_lanes.specs.Phases.{in_order, moved_by};
 
 use crate::fours::store;
 use std::simd::u64x4;
 
-/// Each word with the bits of a mask exchanged with those so many places above them.
-// Where they differ both are turned over.
+/// Each word turned over, and the bits of a mask exchanged with those so many places above them.
+// Where they differ both are turned over again.
 #[inline(always)]
 fn moved(words: u64x4, shifts: u64x4, masks: u64x4) -> u64x4
     requires words { length words ≡ 4 }
@@ -15,10 +16,11 @@ fn moved(words: u64x4, shifts: u64x4, masks: u64x4) -> u64x4
     requires small { (k : ℕ) → k < 4 → slice_index shifts k < 64 }
     ensures long { length result ≡ 4 }
     ensures is { (k : ℕ) → k < 4 → slice_index result k
-        ≡ moved_by (slice_index shifts k) (slice_index masks k) (slice_index words k) }
+        ≡ moved_by (slice_index shifts k) (slice_index masks k) (bit_not w64 (slice_index words k)) }
 {
-    let differ = (words >> shifts ^ words) & masks;
-    words ^ differ ^ differ << shifts
+    let turned = !words;
+    let differ = (turned >> shifts ^ turned) & masks;
+    turned ^ differ ^ differ << shifts
 }
 
 /// The same for four words from a place on.
@@ -27,7 +29,8 @@ fn move_four(words: &mut [u64], from: usize, shifts: [u64; 4], masks: [u64; 4])
     requires from { from + 4 ≤ length words.old }
     requires small { (k : ℕ) → k < 4 → slice_index shifts k < 64 }
     ensures here { (k : ℕ) → k < 4 → slice_index words.new (from + k)
-        ≡ moved_by (slice_index shifts k) (slice_index masks k) (slice_index words.old (from + k)) }
+        ≡ moved_by (slice_index shifts k) (slice_index masks k)
+        (bit_not w64 (slice_index words.old (from + k))) }
     ensures below { (k : ℕ) → k < from → slice_index words.new k ≡ slice_index words.old k }
     ensures above { (k : ℕ) → from + 4 ≤ k → slice_index words.new k ≡ slice_index words.old k }
     ensures room { length words.new ≡ length words.old }

@@ -3,7 +3,7 @@ use Rattle.acs_lanes.proofs.Orders.{differs, moved_at, moved_len, shifts_small}
 use Rattle.acs_lanes.proofs.word_order.moved.Goals as goal
 
 pub overflow_shr-differ : goal.overflow_shr-differ
-overflow_shr-differ c = shifts_small c.args.words c.args.shifts (λ k l. c.requires.small k (omega (arith, l, c.requires.shifts)))
+overflow_shr-differ c = shifts_small _ c.args.shifts (λ k l. c.requires.small k (omega (arith, l, c.requires.shifts)))
 
 pub overflow_shl-result : goal.overflow_shl-result
 overflow_shl-result c =
