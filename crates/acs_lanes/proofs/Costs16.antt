@@ -1,78 +1,38 @@
 -- The costs of the steps in lanes.
-use Rattle.std.proofs.Common.{◌≡◌, ℕ, zero, suc, ◌+◌, ◌*◌, ◌/◌, ◌%◌, ◌^◌, ◌<◌, ◌≤◌, Bool, true, false, List, [], ◌∷◌, ◌++◌, map, length, get_or, replicate, refl, sym, ap, ap₂, ◌∙◌, subst, arith, eqb, mod-lt, lit<}
-use Rattle.std.proofs.lemmas.Simd.{get_or_wider, get_or_narrower, get_or-chunk, length-chunk, Each1-replicate}
-use Rattle.std.proofs.lemmas.List.{get_or-replicate}
-use Rattle.std.specs.Simd.Lanes.{zip2, number_l, digits_l, chunk, Each1}
-use Rattle.std.specs.Prelude.{slice_index}
-use Rattle.std.proofs.lemmas.Grind.{same_number_lists}
+use Rattle.std.proofs.Common.{◌≡◌, ℕ, zero, suc, ◌+◌, ◌*◌, ◌/◌, ◌%◌, ◌^◌, ◌<◌, ◌≤◌, Bool, true, false, List, [], ◌∷◌, ◌++◌, map, length, get_or, replicate, refl, sym, ap, ap₂, ◌∙◌, subst, arith, eqb}
+use Rattle.std.specs.Simd.Lanes.{zip2}
 use Rattle.code_paths.specs.declared.costs.CostPair.{CostPair}
 use Rattle.code_paths.specs.Paths.{parity_x, parity_y}
 use Rattle.code_paths.proofs.Registers.{all_below}
 use Rattle.acs_lanes.specs.Lanes.{AreSteps, four}
-use Rattle.acs_lanes.specs.Lanes16.{AreLaidCosts, repeated, way}
+use Rattle.acs_lanes.specs.Lanes16.{AreLaidCosts, repeated, way, word_of}
 use Rattle.acs_lanes.proofs.LaneLaws.{at_map, bits_at, code_of, four_at, four_small}
-use Rattle.acs_lanes.proofs.Laid.{at_range, same_below, way_small}
+use Rattle.acs_lanes.proofs.Laid.{same_below, way_small}
+use Rattle.acs_lanes.proofs.WordParts.{four_by, lanes_from, part_is, parts_repeated, word_fits}
 
 -- ---- the four costs in all lanes
 
-digits_len : (p n x : ℕ) → length (digits_l p n x) ≡ n
-digits_len p zero x = refl
-digits_len p (suc n) x = ap suc (digits_len p n (x / p))
-
-digits_small : (n x : ℕ) → Each1 (λ d. d < 256) (digits_l 256 n x)
-digits_small zero x = tt
-digits_small (suc n) x = (mod-lt x (lit< tt), digits_small n (x / 256))
-
-two_digits : (ys : List ℕ) → length ys ≡ 2 → number_l 256 ys ≡ get_or ys 0 0 + 256 * get_or ys 1 0
-two_digits (a ∷ b ∷ []) l = omega arith
-two_digits [] l = absurd (omega (arith, l))
-two_digits (a ∷ []) l = absurd (omega (arith, l))
-two_digits (a ∷ b ∷ c ∷ ys) l = absurd (omega (arith, l))
-
-module _ (word : ℕ) (fits : word < 18446744073709551616) where
-  abbrev bytes : List ℕ
-  bytes = digits_l 256 32 (number_l 18446744073709551616 (replicate 4 word))
-
-  byte_at : (j i : ℕ) → j < 4 → i < 8 → get_or bytes (8 * j + i) 0 ≡ word / 256 ^ i % 256
-  byte_at j i k l =
-      get_or_narrower 18446744073709551616 8 256 32 (replicate 4 word) j i refl (Each1-replicate (λ x. x < 18446744073709551616) 4 word fits) l (omega arith)
-      ∙ ap (λ x. x / 256 ^ i % 256) (get_or-replicate 4 j word 0 k)
-
-  pub lane_at : (j i : ℕ) → j < 4 → i < 4 → get_or (digits_l 65536 16 (number_l 256 bytes)) (4 * j + i) 0 ≡ word / 256 ^ (2 * i) % 256 + 256 * (word / 256 ^ (2 * i + 1) % 256)
-  lane_at j i k l =
-      let n : length bytes ≡ 32 = digits_len 256 32 (number_l 18446744073709551616 (replicate 4 word)) in
-      let a : 2 * (4 * j + i) + 0 ≡ 8 * j + 2 * i = omega arith in
-      let b : 2 * (4 * j + i) + 1 ≡ 8 * j + (2 * i + 1) = omega arith in
-      get_or_wider 256 2 65536 16 bytes (4 * j + i) refl (digits_small 32 (number_l 18446744073709551616 (replicate 4 word))) (omega arith)
-      ∙ two_digits (chunk (2 * (4 * j + i)) 2 bytes) (length-chunk (2 * (4 * j + i)) 2 bytes (omega (arith, n)))
-      ∙ ap₂ (λ x y. x + 256 * y) (get_or-chunk (2 * (4 * j + i)) 2 bytes 0 0 (lit< tt) ∙ ap (λ z. get_or bytes z 0) a ∙ byte_at j (2 * i) k (omega arith))
-      (get_or-chunk (2 * (4 * j + i)) 2 bytes 1 0 (lit< tt) ∙ ap (λ z. get_or bytes z 0) b ∙ byte_at j (2 * i + 1) k (omega arith))
-
--- the word of a pair
-abbrev pub word_of : CostPair → ℕ
-word_of pair = pair.x0 + 65536 * pair.x1 + 4294967296 * pair.y0 + 281474976710656 * pair.y1
-
 module _ (pair : CostPair) where
-  word_fits : word_of pair < 18446744073709551616
-  word_fits = omega (arith, pair.small.x0_small, pair.small.x1_small, pair.small.y0_small, pair.small.y1_small)
+  x0_fits : pair.x0 < 65536
+  x0_fits = omega (arith, pair.small.x0_small)
 
-  part_is : (i : ℕ) → i < 4 → word_of pair / 256 ^ (2 * i) % 256 + 256 * (word_of pair / 256 ^ (2 * i + 1) % 256) ≡ get_or (pair.x0 ∷ pair.x1 ∷ pair.y0 ∷ pair.y1 ∷ []) i 0
-  part_is zero l = omega (arith, pair.small.x0_small)
-  part_is (suc zero) l = omega (arith, pair.small.x0_small, pair.small.x1_small)
-  part_is (suc (suc zero)) l = omega (arith, pair.small.x0_small, pair.small.x1_small, pair.small.y0_small)
-  part_is (suc (suc (suc zero))) l = omega (arith, pair.small.x0_small, pair.small.x1_small, pair.small.y0_small, pair.small.y1_small)
-  part_is (suc (suc (suc (suc i)))) l = absurd (omega arith)
+  x1_fits : pair.x1 < 65536
+  x1_fits = omega (arith, pair.small.x1_small)
 
-  pub repeated_is : digits_l 65536 16 (number_l 256 (digits_l 256 32 (number_l 18446744073709551616 (replicate 4 (word_of pair))))) ≡ repeated pair
-  repeated_is =
-      let lanes = digits_l 65536 16 (number_l 256 (digits_l 256 32 (number_l 18446744073709551616 (replicate 4 (word_of pair))))) in
-      let long : length lanes ≡ 16 = digits_len 65536 16 (number_l 256 (digits_l 256 32 (number_l 18446744073709551616 (replicate 4 (word_of pair))))) in
-      same_number_lists lanes (repeated pair) long
-      (λ k l.
-      let m : k < 16 = omega (arith, l, long) in
-      let e : 4 * (k / 4) + k % 4 ≡ k = omega arith in
-      ap (λ z. get_or lanes z 0) (sym e) ∙ lane_at (word_of pair) word_fits (k / 4) (k % 4) (omega arith) (omega arith) ∙ part_is (k % 4) (omega arith)
-      ∙ sym (at_range (λ k. slice_index (pair.x0 ∷ pair.x1 ∷ pair.y0 ∷ pair.y1 ∷ []) (k % 4)) 16 k refl m))
+  y0_fits : pair.y0 < 65536
+  y0_fits = omega (arith, pair.small.y0_small)
+
+  y1_fits : pair.y1 < 65536
+  y1_fits = omega (arith, pair.small.y1_small)
+
+  pub pair_fits : word_of pair < 18446744073709551616
+  pair_fits = word_fits pair.x0 pair.x1 pair.y0 pair.y1 x0_fits x1_fits y0_fits y1_fits
+
+  pub pair_part : (i : ℕ) → i < 4 → word_of pair / 256 ^ (2 * i) % 256 + 256 * (word_of pair / 256 ^ (2 * i + 1) % 256) ≡ get_or (four_by pair.x0 pair.x1 pair.y0 pair.y1) i 0
+  pair_part = part_is pair.x0 pair.x1 pair.y0 pair.y1 x0_fits x1_fits y0_fits y1_fits
+
+  pub repeated_is : lanes_from (replicate 4 (word_of pair)) ≡ repeated pair
+  repeated_is = parts_repeated pair.x0 pair.x1 pair.y0 pair.y1 x0_fits x1_fits y0_fits y1_fits
 
 -- ---- the costs by their codes 2X + Y
 

@@ -5,7 +5,9 @@ pub mod Quarters
 pub mod Highs
 pub mod Shifts
 pub mod Laid
+pub mod WordParts
 pub mod Costs16
+pub mod FourSums
 mod Back
 pub mod Marks
 pub mod Turns
@@ -14,3 +16,5 @@ pub mod PhaseTables
 pub mod PhaseMarks
 pub mod PhaseCosts
 pub mod PhaseTurns
+pub mod Rows16
+pub mod Orders

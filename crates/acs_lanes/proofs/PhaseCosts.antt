@@ -1,34 +1,14 @@
 -- The costs of the steps in each phase.
-use Rattle.std.proofs.Common.{◌≡◌, ℕ, ◌+◌, ◌%◌, ◌<◌, Bool, true, false, List, [], ◌∷◌, ◌++◌, map, length, get_or, refl, sym, ap, ◌∙◌, subst, arith, eqb, lit<}
-use Rattle.std.specs.Simd.Lanes.{zip2}
-use Rattle.std.specs.List.{range_with_len}
+use Rattle.std.proofs.Common.{◌≡◌, ℕ, ◌<◌, Bool, true, false, List, [], ◌∷◌, ◌++◌, length, get_or, refl, sym, ap, ◌∙◌, subst, arith, eqb, lit<}
 use Rattle.code_paths.specs.declared.costs.CostPair.{CostPair}
 use Rattle.code_paths.specs.Paths.{parity_x, parity_y}
 use Rattle.code_paths.proofs.Registers.{all_below}
 use Rattle.acs_lanes.specs.Lanes.{AreSteps, four}
-use Rattle.acs_lanes.specs.Lanes16.{repeated}
 use Rattle.acs_lanes.specs.Phases.{AreCostsIn, all_sums, way_in}
-use Rattle.acs_lanes.proofs.Costs16.{code_at, codes_small, lanes_of, sums_are}
+use Rattle.acs_lanes.proofs.Costs16.{code_at, codes_small, lanes_of}
 use Rattle.acs_lanes.proofs.LaneLaws.{at_map, bits_at, four_at, four_small}
 use Rattle.acs_lanes.proofs.Laid.{same_below}
 use Rattle.acs_lanes.proofs.PhaseTables.{way_in_small}
-
--- ---- the four sums
-
-abbrev xs : List ℕ
-xs = 0 ∷ 0 ∷ 1 ∷ 1 ∷ 0 ∷ 0 ∷ 1 ∷ 1 ∷ 8 ∷ 8 ∷ 9 ∷ 9 ∷ 8 ∷ 8 ∷ 9 ∷ 9 ∷ []
-
-abbrev ys : List ℕ
-ys = 2 ∷ 3 ∷ 2 ∷ 3 ∷ 2 ∷ 3 ∷ 2 ∷ 3 ∷ 10 ∷ 11 ∷ 10 ∷ 11 ∷ 10 ∷ 11 ∷ 10 ∷ 11 ∷ []
-
-abbrev pub added_all : List ℕ → List ℕ
-added_all costs = zip2 (λ a b. (a + b) % 65536) (lanes_of (costs ++ costs) xs) (lanes_of (costs ++ costs) ys)
-
-abbrev four_times : List ℕ → List ℕ
-four_times sums = map (λ k. get_or sums (k % 4) 0) (range_with_len 0 16)
-
-pub all_sums_are : (pair : CostPair) (costs : List ℕ) → costs ≡ repeated pair → added_all costs ≡ all_sums pair
-all_sums_are pair costs e = subst (λ z. added_all z ≡ all_sums pair) (sym e) (ap four_times (sums_are pair))
 
 -- ---- the costs of steps by their codes
 

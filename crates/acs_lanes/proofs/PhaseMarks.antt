@@ -1,11 +1,12 @@
 -- A word of the lanes that have no mark, in each phase.
-use Rattle.std.proofs.Common.{◌≡◌, ℕ, zero, suc, ◌+◌, ◌-◌, ◌*◌, ◌/◌, ◌%◌, ◌^◌, ◌<◌, ◌≤◌, Bool, true, false, cond, not, ◌&&◌, List, ◌++◌, length, map, get_or, replicate, refl, sym, ap, ap₂, ◌∙◌, subst, arith, bit_and, bit_or, eqb, ltb, true≢false, w8, mod-lt}
+use Rattle.std.proofs.Common.{◌≡◌, ℕ, zero, suc, ◌+◌, ◌-◌, ◌*◌, ◌/◌, ◌%◌, ◌^◌, ◌<◌, Bool, true, false, cond, not, ◌&&◌, List, ◌++◌, length, map, get_or, replicate, refl, sym, ap, ap₂, ◌∙◌, subst, arith, bit_or, eqb, ltb, true≢false, w8, mod-lt, lit<}
 use Rattle.std.proofs.lemmas.Bool.{eqb-true, ltb-false}
 use Rattle.std.proofs.lemmas.List.{get_or_append_left}
+use Rattle.std.proofs.lemmas.Nat.{or_lt}
 use Rattle.std.proofs.lemmas.Nat.Bits.{bit_at_cat_high, bit_at_xor, bit_at-lt}
 use Rattle.std.proofs.lemmas.Simd.{bitmask_splat, bit_mask_l, mask_l-lt}
 use Rattle.std.specs.Bool.{nat_lt}
-use Rattle.std.specs.Int.{bit_at}
+use Rattle.std.specs.Int.{bit_at, bit_not, w64}
 use Rattle.std.specs.Int.Bits.{bit_xor}
 use Rattle.std.specs.Prelude.{slice_index}
 use Rattle.std.specs.Simd.Lanes.{zip2, mask_l, top}
@@ -13,11 +14,11 @@ use Rattle.code_paths.proofs.Registers.{all_below, all_below_at}
 use Rattle.code_paths.proofs.Words.{pow-pos, set_and, set_shl, whole}
 use Rattle.spec_words.specs.Bits.{is_set, xor}
 use Rattle.acs_lanes.specs.Lanes16.{AreMarks}
-use Rattle.acs_lanes.specs.Phases.{by_halves, byte_of, exchanged, ordered, swapped, way_in}
+use Rattle.acs_lanes.specs.Phases.{by_halves, byte_of, differ, exchanged, in_order, mask_in, moved_by, ordered, shift_in, way_in}
 use Rattle.acs_lanes.proofs.LaneLaws.{set_low_word, set_high_word}
 use Rattle.acs_lanes.proofs.Laid.{at_range}
 use Rattle.acs_lanes.proofs.Marks.{below_half, byte_at, holds_at, one}
-use Rattle.acs_lanes.proofs.PhaseTables.{exchanged_high, exchanged_small, exchanged_twice, way_in_small}
+use Rattle.acs_lanes.proofs.PhaseTables.{by_phase, exchanged_high, exchanged_small, exchanged_twice, way_in_small}
 
 -- ---- the word of two vectors
 
@@ -111,13 +112,6 @@ taken x to n s false false true e t =
     ap (λ z. xor (xor (is_set x n) false) (xor (is_set x z) (is_set x (n - s)))) (e refl) ∙ from_below (is_set x n) (is_set x (n - s)) ∙ ap (is_set x) (sym (eqb-true to (n - s) t))
 taken x to n s false false false e t = same (is_set x n) ∙ ap (is_set x) (sym (eqb-true to n t))
 
--- where a word's bits differ from those so many places above them, of those in a mask
-abbrev pub differ : ℕ → ℕ → ℕ → ℕ
-differ s mask x = bit_and (bit_xor (x / 2 ^ s) x) mask
-
-abbrev pub moved_by : ℕ → ℕ → ℕ → ℕ
-moved_by s mask x = bit_xor (bit_xor x (differ s mask x)) (differ s mask x * 2 ^ s % 2 ^ 64)
-
 differ_at : (s mask x n : ℕ) → is_set (differ s mask x) n ≡ (is_set mask n && xor (is_set x (n + s)) (is_set x n))
 differ_at s mask x n =
     set_and (bit_xor (x / 2 ^ s) x) mask n ∙ turned_and (is_set (bit_xor (x / 2 ^ s) x) n) (is_set mask n)
@@ -133,19 +127,10 @@ moved s mask to t x n l =
     (set_shl (differ s mask x) s n l ∙ ap (λ z. not (nat_lt n s) && z) (differ_at s mask x (n - s)))
     ∙ taken x (to n) n s (is_set mask n) (nat_lt n s) (is_set mask (n - s)) (not_below n s) (all_below_at (λ n. fits (to n) n s (is_set mask n) (nat_lt n s) (is_set mask (n - s))) 64 n t l)
 
-pub moved_1 : (p x : ℕ) → p ≡ 1 → (n : ℕ) → n < 64 → is_set (moved_by 8 280375465148160 x) n ≡ is_set x (exchanged p n)
-moved_1 p x e = subst (λ p. (n : ℕ) → n < 64 → is_set (moved_by 8 280375465148160 x) n ≡ is_set x (exchanged p n)) (sym e) (moved 8 280375465148160 (exchanged 1) refl x)
-
-pub moved_2 : (p x : ℕ) → p ≡ 2 → (n : ℕ) → n < 64 → is_set (moved_by 12 264913582878960 x) n ≡ is_set x (exchanged p n)
-moved_2 p x e = subst (λ p. (n : ℕ) → n < 64 → is_set (moved_by 12 264913582878960 x) n ≡ is_set x (exchanged p n)) (sym e) (moved 12 264913582878960 (exchanged 2) refl x)
-
-pub moved_3 : (p x : ℕ) → p ≡ 3 → (n : ℕ) → n < 64 → is_set (moved_by 14 225176545447116 x) n ≡ is_set x (exchanged p n)
-moved_3 p x e = subst (λ p. (n : ℕ) → n < 64 → is_set (moved_by 14 225176545447116 x) n ≡ is_set x (exchanged p n)) (sym e) (moved 14 225176545447116 (exchanged 3) refl x)
-
-pub moved_4 : (p x : ℕ) → 4 ≤ p → (n : ℕ) → n < 64 → is_set (moved_by 15 187647121205930 x) n ≡ is_set x (exchanged p n)
-moved_4 p x l =
-    let e : suc (suc (suc (suc (p - 4)))) ≡ p = omega (arith, l) in
-    subst (λ p. (n : ℕ) → n < 64 → is_set (moved_by 15 187647121205930 x) n ≡ is_set x (exchanged p n)) e (moved 15 187647121205930 (swapped 0) refl x)
+moved_in : (p : ℕ) → p < 6 → (x n : ℕ) → n < 64 → is_set (moved_by (shift_in p) (mask_in p) x) n ≡ is_set x (exchanged p n)
+moved_in =
+    by_phase (λ p. (x n : ℕ) → n < 64 → is_set (moved_by (shift_in p) (mask_in p) x) n ≡ is_set x (exchanged p n)) (moved 1 0 (exchanged 0) refl) (moved 8 280375465148160 (exchanged 1) refl) (moved 12 264913582878960 (exchanged 2) refl)
+    (moved 14 225176545447116 (exchanged 3) refl) (moved 15 187647121205930 (exchanged 4) refl) (moved 15 187647121205930 (exchanged 5) refl)
 
 -- bytes in the order of a phase
 pub ordered_as : (p q : ℕ) → p ≡ q → (xs bytes : List ℕ) → xs ≡ ordered q bytes → xs ≡ ordered p bytes
@@ -153,15 +138,26 @@ ordered_as p q e xs bytes h = subst (λ p. xs ≡ ordered p bytes) (sym e) h
 
 -- ---- both halves
 
-module _ (p : ℕ) (in6 : p < 6) (low high word : ℕ) (small : low < 2 ^ 32) (h : (n : ℕ) → n < 64 → is_set word n ≡ is_set (bit_or low (high * 2 ^ 32 % 2 ^ 64)) (exchanged p n)) where
-  pub low_bits : (is_odd : ℕ → Bool) → ((k : ℕ) → k < 32 → is_set low k ≡ is_odd (way_in p (exchanged p k))) → (k : ℕ) → k < 32 → is_set word k ≡ is_odd (way_in p k)
+module _ (p : ℕ) (in6 : p < 6) (low high : ℕ) (small : low < 2 ^ 32) where
+  abbrev both : ℕ
+  both = bit_or low (high * 2 ^ 32 % 2 ^ 64)
+
+  both_fits : both < 2 ^ 64
+  both_fits = or_lt 64 low (high * 2 ^ 32 % 2 ^ 64) (omega (arith, small)) (mod-lt (high * 2 ^ 32) (lit< tt))
+
+  ordered_at : (n : ℕ) → n < 64 → is_set (in_order p (bit_not w64 both)) n ≡ is_set both (exchanged p n)
+  ordered_at n l =
+      let twice : bit_not w64 (bit_not w64 both) ≡ both = omega (arith, both_fits) in
+      ap (λ z. is_set (moved_by (shift_in p) (mask_in p) z) n) twice ∙ moved_in p in6 both n l
+
+  pub low_bits : (is_odd : ℕ → Bool) → ((k : ℕ) → k < 32 → is_set low k ≡ is_odd (way_in p (exchanged p k))) → (k : ℕ) → k < 32 → is_set (in_order p (bit_not w64 both)) k ≡ is_odd (way_in p k)
   low_bits is_odd f k l =
       let s = exchanged_small p in6 k l in
-      h k (omega arith) ∙ set_low_word 32 low high (exchanged p k) s (omega arith) ∙ f (exchanged p k) s ∙ ap (λ z. is_odd (way_in p z)) (exchanged_twice p in6 k l)
+      ordered_at k (omega arith) ∙ set_low_word 32 low high (exchanged p k) s (omega arith) ∙ f (exchanged p k) s ∙ ap (λ z. is_odd (way_in p z)) (exchanged_twice p in6 k l)
 
-  pub high_bits : (is_odd : ℕ → Bool) → ((k : ℕ) → k < 32 → is_set high k ≡ is_odd (way_in p (exchanged p k))) → (k : ℕ) → k < 32 → is_set word (k + 32) ≡ is_odd (way_in p k)
+  pub high_bits : (is_odd : ℕ → Bool) → ((k : ℕ) → k < 32 → is_set high k ≡ is_odd (way_in p (exchanged p k))) → (k : ℕ) → k < 32 → is_set (in_order p (bit_not w64 both)) (k + 32) ≡ is_odd (way_in p k)
   high_bits is_odd f k l =
       let s = exchanged_small p in6 k l in
       let e : exchanged p k + 32 - 32 ≡ exchanged p k = omega arith in
-      h (k + 32) (omega arith) ∙ ap (is_set (bit_or low (high * 2 ^ 32 % 2 ^ 64))) (exchanged_high p in6 k l)
+      ordered_at (k + 32) (omega arith) ∙ ap (is_set both) (exchanged_high p in6 k l)
       ∙ set_high_word 32 low high (exchanged p k + 32) small (omega arith) (omega (arith, s)) ∙ ap (is_set high) e ∙ f (exchanged p k) s ∙ ap (λ z. is_odd (way_in p z)) (exchanged_twice p in6 k l)

@@ -1,17 +1,15 @@
 -- The step over the lanes in each phase.
-use Rattle.std.proofs.Common.{◌≡◌, ℕ, zero, suc, ◌+◌, ◌-◌, ◌*◌, ◌/◌, ◌%◌, ◌^◌, ◌<◌, ◌≤◌, min, true, false, List, [], ◌∷◌, ◌++◌, map, length, get_or, ◌⊎◌, inl, inr, refl, sym, ap, ap₂, ◌∙◌, subst, arith, mod-lt, lit<, Fits, w16, take, length-set}
+use Rattle.std.proofs.Common.{◌≡◌, ℕ, zero, suc, ◌+◌, ◌-◌, ◌*◌, ◌/◌, ◌%◌, ◌^◌, ◌<◌, ◌≤◌, min, true, false, List, [], ◌∷◌, ◌++◌, map, length, get_or, ◌⊎◌, inl, inr, refl, sym, ap, ap₂, ◌∙◌, subst, arith, mod-lt, lit<, Fits, w16}
 use Rattle.std.proofs.lemmas.Bool.{cases_lt}
 use Rattle.std.proofs.lemmas.Grind.{same_number_lists}
 use Rattle.std.proofs.lemmas.List.{get_or_append_left, get_or-append_right}
-use Rattle.std.specs.Prelude.{slice_index, slice_set}
+use Rattle.std.specs.Prelude.{slice_index}
 use Rattle.std.specs.Bool.{nat_lt}
 use Rattle.std.specs.List.{range_with_len}
 use Rattle.std.specs.Simd.Lanes.{Each1}
 use Rattle.spec_words.specs.Bits.{is_set}
 use Rattle.code_paths.specs.declared.costs.CostPair.{CostPair}
-use Rattle.acs_plain.specs.declared.sums.Sums.{Sums}
-use Rattle.acs_plain.specs.Steps.{AreSteps, IsStep}
-use Rattle.acs_plain.proofs.Rows.{row_more}
+use Rattle.acs_plain.specs.Steps.{IsStep}
 use Rattle.acs_lanes.specs.Lanes16.{AreLanes, AreLesser, AreLowered, all_with, joined}
 use Rattle.acs_lanes.proofs.Highs.{lowered_same}
 use Rattle.acs_lanes.proofs.Shifts.{word_step}
@@ -186,12 +184,3 @@ second_step p in5 a b c d e f g h y w fit s =
     let q : p + 1 ≡ next p = omega (arith, in5) in
     word_step y (laid_in (next p) a b c d) (laid_in (next p) a b c d) (laid_in (next (p + 1)) e f g h) w (lowered_in (next p) (next_small p) a b c d a b c d (lowered_same (joined a b c d) fit))
     (subst (λ q. IsWordStep y (laid_in q a b c d) (laid_in (next (p + 1)) e f g h) w) q s)
-
-pub row_at : (m n : ℕ) → m ≡ n → (old : Sums) (ps : List CostPair) (new : Sums) (ws : List ℕ) → AreSteps old (take m ps) new (take m ws) → AreSteps old (take n ps) new (take n ws)
-row_at m n e old ps new ws h = subst (λ n. AreSteps old (take n ps) new (take n ws)) e h
-
-pub two_rows : (start : Sums) (ps : List CostPair) (at : ℕ) (x y : CostPair) (s0 s1 s2 : Sums) (ws : List ℕ) (v w : ℕ) → at + 2 ≤ length ps → length ws ≡ length ps → get_or ps at x ≡ x → get_or ps (at + 1) y ≡ y
-    → IsStep s0 x s1 v → IsStep s1 y s2 w → AreSteps start (take at ps) s0 (take at ws) → AreSteps start (take (at + 2) ps) s2 (take (at + 2) (slice_set (slice_set ws at v) (at + 1) w))
-two_rows start ps at x y s0 s1 s2 ws v w l m ex ey s t h =
-    row_at (at + 1 + 1) (at + 2) (omega arith) start ps s2 (slice_set (slice_set ws at v) (at + 1) w)
-    (row_more start ps (at + 1) y y s1 (slice_set ws at v) s2 w (omega (arith, l)) (omega (arith, l, m, length-set ws at v)) ey (row_more start ps at x x s0 ws s1 v (omega (arith, l)) (omega (arith, l, m)) ex h s) t)

@@ -3,10 +3,12 @@ use Rattle.std.specs.Prelude.{◌≡◌, ℕ, zero, suc, ◌+◌, ◌-◌, ◌*�
 use Rattle.std.specs.Prelude.{length, map, slice_index}
 use Rattle.std.specs.Bool.{nat_lt}
 use Rattle.std.specs.List.{range_with_len}
+use Rattle.std.specs.Int.{bit_not, w64}
+use Rattle.std.specs.Int.Bits.{bit_xor, bit_and}
 use Rattle.spec_words.specs.Bits.{is_set}
 use Rattle.code_paths.specs.declared.costs.CostPair.{CostPair}
 use Rattle.acs_lanes.specs.Lanes.{AreSteps, cost_from, four}
-use Rattle.acs_lanes.specs.Lanes16.{joined, way}
+use Rattle.acs_lanes.specs.Lanes16.{joined, way, word_by}
 
 -- the bits of k of these numbers, as those of a lane of two vectors, from bit 4 down
 abbrev pub lane_by : ℕ → ℕ → ℕ → ℕ → ℕ → ℕ → ℕ
@@ -46,6 +48,10 @@ pub record IsWordStep (pair : CostPair) (old new : List ℕ) (word : ℕ) : Type
   pub high_odd : (k : ℕ) → k < 32 → is_set word (k + 32) ≡ nat_lt (slice_index old (2 * k + 1) + cost_from pair 1 true
       k) (slice_index old (2 * k) + cost_from pair 0 true k)
 
+-- the four sums of a pair as one word
+abbrev pub sum_word : CostPair → ℕ
+sum_word pair = word_by (pair.x0 + pair.y0) (pair.x0 + pair.y1) (pair.x1 + pair.y0) (pair.x1 + pair.y1)
+
 -- the four sums of a pair, four times
 abbrev pub all_sums : CostPair → List ℕ
 all_sums pair = map (λ k. slice_index (four pair) (k % 4)) (range_with_len 0 16)
@@ -71,6 +77,34 @@ pub record AreCostsIn (phase : ℕ) (pair : CostPair) (zero_first one_first zero
 abbrev pub swapped : ℕ → ℕ → ℕ
 swapped e n = n / 32 * 32 + 16 * (n / 2 ^ e % 2) + n / 2 ^ (e + 1) % 2 ^ (3 - e) * 2 ^ (e + 1) + 2 ^ e * (n / 16 % 2)
     + n % 2 ^ e
+
+-- where the bits of a word in a mask differ from those so many places above them
+abbrev pub differ : ℕ → ℕ → ℕ → ℕ
+differ shift mask word = bit_and (bit_xor (word / 2 ^ shift) word) mask
+
+-- the word with those bits exchanged
+abbrev pub moved_by : ℕ → ℕ → ℕ → ℕ
+moved_by shift mask word = bit_xor (bit_xor word (differ shift mask word)) (differ shift mask word * 2 ^ shift % 2 ^ 64)
+
+-- The bit of a state's number that says which half of a vector it is in has its place among the bits of a word only
+-- after this exchange.
+abbrev pub shift_in : ℕ → ℕ
+shift_in zero = 1
+shift_in (suc zero) = 8
+shift_in (suc (suc zero)) = 12
+shift_in (suc (suc (suc zero))) = 14
+shift_in (suc (suc (suc (suc p)))) = 15
+
+abbrev pub mask_in : ℕ → ℕ
+mask_in zero = 0
+mask_in (suc zero) = 280375465148160
+mask_in (suc (suc zero)) = 264913582878960
+mask_in (suc (suc (suc zero))) = 225176545447116
+mask_in (suc (suc (suc (suc p)))) = 187647121205930
+
+-- The decisions of a step in the order of states, from the word of a phase, whose bits are set if the even way was taken.
+abbrev pub in_order : ℕ → ℕ → ℕ
+in_order phase word = moved_by (shift_in phase) (mask_in phase) (bit_not w64 word)
 
 -- Bytes are put in order within each half of a vector, so bit 4 of a state's number is still the one that says which
 -- half.

@@ -10,6 +10,8 @@
 //! to and from each state, for whoever needs these themselves.
 #![tactic(auto)]
 
+mod cost_sums;
+mod fours;
 mod lanes;
 mod lanes16;
 mod phases;
@@ -18,6 +20,7 @@ mod six;
 mod slices;
 mod step16;
 mod totals;
+mod word_order;
 
 pub use lanes::LaneAcs;
 pub use totals::{backward, forward};

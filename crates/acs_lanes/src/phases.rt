@@ -3,24 +3,12 @@ ghost use Rattle.std.specs.Prelude.{◌≡◌, ◌≤◌, ◌<◌, ◌+◌, ◌*
 ghost use Rattle.spec_words.specs.Bits.{is_set};
 ghost use Rattle.code_paths.specs.declared.costs.CostPair.{CostPair as Pair};
 ghost use Rattle.acs_lanes.specs.Lanes16.{AreMarks};
-ghost use Rattle.acs_lanes.specs.Phases.{AreCostsIn, AreTurnedIn, all_sums, by_halves, exchanged, laid_in};
+ghost use Rattle.acs_lanes.specs.Phases.{AreCostsIn, AreTurnedIn, all_sums, by_halves, exchanged, in_order, laid_in};
 ghost use Rattle.acs_lanes.specs.Phases.{lower_eights, lower_fours, next, ordered, upper_eights, upper_fours, way_in};
 
 use crate::lanes16::Lanes;
-use crate::step16::repeated;
-use conv_code::CostPair;
 use std::simd::cmp::SimdPartialOrd;
 use std::simd::{u8x16, u8x32, u16x16};
-
-/// The sums of a cost of X and one of Y, by 2X + Y, four times.
-#[inline(always)]
-pub(crate) fn all_sums(pair: CostPair) -> u16x16
-    ensures { result ≡ all_sums pair }
-{
-    let costs = repeated(pair);
-    costs.swizzle([0, 0, 1, 1, 0, 0, 1, 1, 8, 8, 9, 9, 8, 8, 9, 9])
-        + costs.swizzle([2, 3, 2, 3, 2, 3, 2, 3, 10, 11, 10, 11, 10, 11, 10, 11])
-}
 
 /// The costs of the steps from the even states on 0, as from the odd ones on 1, and of the others: of the first
 /// vectors, and
@@ -100,31 +88,6 @@ fn ordered_in(phase: usize, bytes: u8x32) -> u8x32
     }
 }
 
-/// The word with its bits in the order of states: the bit of a state's number that said which half of a vector it is in
-/// goes to its place.
-// Where the bits of the mask differ from those above them, both are turned over, which exchanges them.
-#[inline(always)]
-fn exchanged_in(phase: usize, word: u64) -> u64
-    requires { phase < 6 }
-    ensures { (n : ℕ) → n < 64 → is_set result n ≡ is_set word (exchanged phase n) }
-{
-    if phase == 0 {
-        word
-    } else if phase == 1 {
-        let differ = (word >> 8 ^ word) & 0x0000_FF00_0000_FF00;
-        word ^ differ ^ differ << 8
-    } else if phase == 2 {
-        let differ = (word >> 12 ^ word) & 0x0000_F0F0_0000_F0F0;
-        word ^ differ ^ differ << 12
-    } else if phase == 3 {
-        let differ = (word >> 14 ^ word) & 0x0000_CCCC_0000_CCCC;
-        word ^ differ ^ differ << 14
-    } else {
-        let differ = (word >> 15 ^ word) & 0x0000_AAAA_0000_AAAA;
-        word ^ differ ^ differ << 15
-    }
-}
-
 /// The marks of two vectors, in each half those of eight lanes of the first and then of the last.
 // As one instruction makes bytes of the lanes of two vectors.
 #[inline(always)]
@@ -152,7 +115,9 @@ pub(crate) fn half_word(phase: usize, first: u8x16, last: u8x16) -> u64
     bytes.simd_lt(u8x32::splat(128)).to_bitmask()
 }
 
-/// The word of the states that the odd way leads to, by the marks of those below 32 and of the others.
+/// The word of the states that the even way leads to, by the marks of those below 32 and of the others, before its bits are
+/// put in the order of states.
+// So they need no turning over here, which four words have together later.
 #[inline(always)]
 pub(crate) fn word_in(
     phase: usize,
@@ -162,14 +127,14 @@ pub(crate) fn word_in(
     high_last: u8x16,
 ) -> u64
     requires { phase < 6 }
-    ensures low { (is_odd : ℕ → Bool) → AreMarks low_first low_last is_odd → (k : ℕ) → k < 32 → is_set result k
-        ≡ is_odd (way_in phase k) }
+    ensures low { (is_odd : ℕ → Bool) → AreMarks low_first low_last is_odd → (k : ℕ) → k < 32
+        → is_set (in_order phase result) k ≡ is_odd (way_in phase k) }
     ensures high { (is_odd : ℕ → Bool) → AreMarks high_first high_last is_odd → (k : ℕ) → k < 32
-        → is_set result (k + 32) ≡ is_odd (way_in phase k) }
+        → is_set (in_order phase result) (k + 32) ≡ is_odd (way_in phase k) }
 {
     let low = half_word(phase, low_first, low_last);
     let high = half_word(phase, high_first, high_last);
-    exchanged_in(phase, low | high << 32)
+    !(low | high << 32)
 }
 
 /// The lower four of each eight lanes of two vectors in turn, and the upper four.

@@ -1,25 +1,30 @@
 // Six steps over the lanes, which leave them in their order.
-ghost use Rattle.std.specs.Prelude.{◌≡◌, ◌≤◌, ◌<◌, ◌+◌, ◌*◌, ◌/◌, ℕ, length, slice_index, take};
-ghost use Rattle.acs_plain.specs.declared.sums.Sums.{Sums};
+ghost use Rattle.std.specs.Prelude.{◌≡◌, ◌≤◌, ◌<◌, ◌+◌, ◌*◌, ◌/◌, ℕ, [], ◌∷◌, length, slice_index, take};
+ghost use Rattle.code_paths.specs.declared.costs.CostPair.{CostPair as Pair};
 ghost use Rattle.acs_plain.specs.Spread.{IsSpread};
 ghost use Rattle.acs_plain.specs.Steps.{AreSteps};
 ghost use Rattle.acs_lanes.specs.Lanes16.{all_with, joined, laid};
-ghost use Rattle.acs_lanes.specs.Phases.{IsWordStep, laid_in, next};
+ghost use Rattle.acs_lanes.specs.Phases.{IsWordStep, all_sums, in_order, laid_in, next, sum_word};
 
+use crate::cost_sums::{sums_in, write_sums};
 use crate::lanes16::{Lanes, lowered};
-use crate::phases::{all_sums, costs_in, turned_in, word_in};
+use crate::phases::{costs_in, turned_in, word_in};
 use crate::step16::pick;
+use crate::word_order::order_words;
 use conv_code::CostPair;
+use std::simd::u16x16;
 
-/// The step over all states in a phase: the new costs, and a bit for each state that the odd way leads to.
+/// The step over all states in a phase: the new costs, and a bit for each state that the even way leads to, in the order of
+/// the phase.
 #[inline(always)]
-fn step_in(phase: usize, old: Lanes, pair: CostPair) -> (Lanes, u64)
+fn step_in(phase: usize, old: Lanes, sums: u16x16) -> (Lanes, u64)
     requires phase { phase < 6 }
     requires fit { (n : ℕ) → n < 64 → slice_index (joined old.a old.b old.c old.d) n ≤ 57345 }
-    ensures step { IsWordStep pair (laid_in phase old.a old.b old.c old.d)
-        (laid_in (next phase) result.0.a result.0.b result.0.c result.0.d) result.1 }
+    requires sums { (pair : Pair) × (sums ≡ all_sums pair) }
+    ensures step { (pair : Pair) → sums ≡ all_sums pair → IsWordStep pair (laid_in phase old.a old.b old.c old.d)
+        (laid_in (next phase) result.0.a result.0.b result.0.c result.0.d) (in_order phase result.1) }
 {
-    let (zero_first, one_first, zero_last, one_last) = costs_in(phase, all_sums(pair));
+    let (zero_first, one_first, zero_last, one_last) = costs_in(phase, sums);
     let (low_first, low_first_even) = pick(old.a, zero_first, old.c, one_first);
     let (high_first, high_first_even) = pick(old.a, one_first, old.c, zero_first);
     let (low_last, low_last_even) = pick(old.b, zero_last, old.d, one_last);
@@ -36,43 +41,51 @@ fn step_in(phase: usize, old: Lanes, pair: CostPair) -> (Lanes, u64)
     )
 }
 
-/// Two steps from a place on, before which the lanes are made such that the costs of both may be added.
+/// Two steps, whose words have the sums of their costs before and their decisions after, in the order of the phases. First the lanes are made such
+/// that the costs of both may be added.
 #[inline(always)]
-fn two_in(phase: usize, from: Lanes, pairs: &[CostPair], at: usize, words: &mut [u64]) -> Lanes
+fn two_in(phase: usize, from: Lanes, words: &mut [u64], at: usize) -> Lanes
     requires phase { phase < 5 }
     requires spread { IsSpread (all_with (laid_in phase from.a from.b from.c from.d)) }
-    requires room { length words.old ≡ length pairs.now }
-    requires more { at + 2 ≤ length pairs.now }
-    ensures steps { (start : Sums) → AreSteps start (take at pairs.now) (all_with
-        (laid_in phase from.a from.b from.c from.d)) (take at words.old)
-        → AreSteps start (take (at + 2) pairs.now) (all_with
-        (laid_in (next (phase + 1)) result.a result.b result.c result.d)) (take (at + 2) words.new) }
+    requires more { at + 2 ≤ length words.old }
+    requires first { (pair : Pair) × (slice_index words.old at ≡ sum_word pair) }
+    requires last { (pair : Pair) × (slice_index words.old (at + 1) ≡ sum_word pair) }
+    ensures steps { (x y : Pair) → slice_index words.old at ≡ sum_word x
+        → slice_index words.old (at + 1) ≡ sum_word y → AreSteps (all_with
+        (laid_in phase from.a from.b from.c from.d)) (x ∷ y ∷ []) (all_with
+        (laid_in (next (phase + 1)) result.a result.b result.c result.d))
+        (in_order phase (slice_index words.new at) ∷ in_order (phase + 1) (slice_index words.new (at + 1)) ∷ []) }
     ensures spread { IsSpread (all_with (laid_in (next (phase + 1)) result.a result.b result.c result.d)) }
-    ensures room { length words.new ≡ length pairs.now }
+    ensures below { (k : ℕ) → k < at → slice_index words.new k ≡ slice_index words.old k }
+    ensures above { (k : ℕ) → at + 2 ≤ k → slice_index words.new k ≡ slice_index words.old k }
+    ensures room { length words.new ≡ length words.old }
 {
-    let (middle, first_word) = step_in(phase, lowered(from), pairs[at]);
+    let (middle, first_word) = step_in(phase, lowered(from), sums_in(words[at]));
     words[at] = first_word;
     let next = at + 1;
-    let (last, last_word) = step_in(phase + 1, middle, pairs[next]);
+    let (last, last_word) = step_in(phase + 1, middle, sums_in(words[next]));
     words[next] = last_word;
     last
 }
 
-/// The steps by sixes, as far as there are such.
+/// The steps by twelves, as far as there are such.
 #[inline(never)]
-pub(crate) fn run_sixes(from: Lanes, pairs: &[CostPair], words: &mut [u64]) -> Lanes
+pub(crate) fn run_twelves(from: Lanes, pairs: &[CostPair], words: &mut [u64]) -> Lanes
     requires spread { IsSpread (all_with (laid from.a from.b from.c from.d)) }
     requires room { length words.old ≡ length pairs.now }
-    ensures steps { AreSteps (all_with (laid from.a from.b from.c from.d)) (take (6 * (length pairs.now / 6)) pairs.now)
-        (all_with (laid result.a result.b result.c result.d)) (take (6 * (length pairs.now / 6)) words.new) }
+    ensures steps { AreSteps (all_with (laid from.a from.b from.c from.d))
+        (take (12 * (length pairs.now / 12)) pairs.now) (all_with (laid result.a result.b result.c result.d))
+        (take (12 * (length pairs.now / 12)) words.new) }
     ensures spread { IsSpread (all_with (laid result.a result.b result.c result.d)) }
     ensures room { length words.new ≡ length pairs.now }
 {
+    write_sums(pairs, words);
     let mut lanes = from;
-    for k in 0..pairs.len() / 6 {
-        let second = two_in(0, lanes, pairs, 6 * k, words);
-        let fourth = two_in(2, second, pairs, 6 * k + 2, words);
-        lanes = two_in(4, fourth, pairs, 6 * k + 4, words);
+    for k in 0..2 * (pairs.len() / 12) {
+        let second = two_in(0, lanes, words, 6 * k);
+        let fourth = two_in(2, second, words, 6 * k + 2);
+        lanes = two_in(4, fourth, words, 6 * k + 4);
     }
+    order_words(words);
     lanes
 }

@@ -6,7 +6,7 @@ ghost use Rattle.acs_plain.specs.Steps.{AreSteps};
 ghost use Rattle.acs_lanes.specs.Lanes16.{all_with, laid};
 
 use crate::lanes16::{Lanes, lowered, narrow, widen};
-use crate::six::run_sixes;
+use crate::six::run_twelves;
 use crate::step16::step;
 use acs_plain::Sums;
 use conv_code::CostPair;
@@ -29,7 +29,7 @@ fn run_rest(from: Lanes, pairs: &[CostPair], at: usize, words: &mut [u64]) -> La
     lanes
 }
 
-/// A step in lanes for each pair, by sixes as far as there are such.
+/// A step in lanes for each pair, by twelves as far as there are such.
 fn run_lanes(from: Lanes, pairs: &[CostPair], words: &mut [u64]) -> Lanes
     requires spread { IsSpread (all_with (laid from.a from.b from.c from.d)) }
     requires room { length words.old ≡ length pairs.now }
@@ -37,8 +37,8 @@ fn run_lanes(from: Lanes, pairs: &[CostPair], words: &mut [u64]) -> Lanes
         (all_with (laid result.a result.b result.c result.d)) words.new }
     ensures room { length words.new ≡ length pairs.now }
 {
-    let lanes = run_sixes(from, pairs, words);
-    run_rest(lanes, pairs, 6 * (pairs.len() / 6), words)
+    let lanes = run_twelves(from, pairs, words);
+    run_rest(lanes, pairs, 12 * (pairs.len() / 12), words)
 }
 
 /// The steps where every state is alive.

@@ -2,7 +2,7 @@
 ghost use Rattle.std.specs.Prelude.{◌≡◌, ◌≤◌, ◌<◌, ◌^◌, ◌++◌, ℕ, slice_index};
 ghost use Rattle.acs_lanes.specs.Lanes.{IsLaneStep};
 ghost use Rattle.acs_lanes.specs.Lanes16.{AddFits, AreLaidCosts, AreLesser, AreTurned, joined, laid};
-ghost use Rattle.acs_lanes.specs.Lanes16.{repeated, way};
+ghost use Rattle.acs_lanes.specs.Lanes16.{repeated, way, word_of};
 
 use crate::lanes16::Lanes;
 use crate::phases::half_word;
@@ -10,16 +10,22 @@ use conv_code::CostPair;
 use std::simd::cmp::{SimdOrd, SimdPartialEq};
 use std::simd::{u8x16, u16x16, u64x4};
 
-/// The four costs of a pair, four times.
-// As one word of 64 bits they are read into all lanes at once.
-pub(crate) fn repeated(pair: CostPair) -> u16x16
-    ensures { result ≡ repeated pair }
+/// The four costs of a pair as one word, which is read at once.
+#[inline(always)]
+pub(crate) fn word_of(pair: CostPair) -> u64
+    ensures { result ≡ word_of pair }
 {
-    let word = pair.x0 as u64
+    pair.x0 as u64
         + 0x1_0000 * pair.x1 as u64
         + 0x1_0000_0000 * pair.y0 as u64
-        + 0x1_0000_0000_0000 * pair.y1 as u64;
-    u16x16::from_le_bytes(u64x4::splat(word).to_le_bytes())
+        + 0x1_0000_0000_0000 * pair.y1 as u64
+}
+
+/// The four costs of a pair, four times.
+fn repeated(pair: CostPair) -> u16x16
+    ensures { result ≡ repeated pair }
+{
+    u16x16::from_le_bytes(u64x4::splat(word_of(pair)).to_le_bytes())
 }
 
 /// The costs of the steps: from the even states on 0, as from the odd ones on 1, and the others, which are those of the

@@ -5,58 +5,58 @@ use Rattle.acs_lanes.proofs.six.step_in.Goals as goal
 pub pick-requires-clause-lens : goal.pick-requires-clause-lens
 pick-requires-clause-lens c =
     let o = c.args.old in
-    let s = c.costs_in.ensures c.args.pair c.all_sums.ensures in
+    let s = c.costs_in.ensures c.requires.sums.0 c.requires.sums.1 in
     add_fits o.a _ o.lanes.a_len s.zero_first_len (a_few o.a o.b o.c o.d o.lanes c.requires.fit) s.zero_first_small
 
 pub pick-requires-clause-odd_lens : goal.pick-requires-clause-odd_lens
 pick-requires-clause-odd_lens c =
     let o = c.args.old in
-    let s = c.costs_in.ensures c.args.pair c.all_sums.ensures in
+    let s = c.costs_in.ensures c.requires.sums.0 c.requires.sums.1 in
     add_fits o.c _ o.lanes.c_len s.one_first_len (c_few o.a o.b o.c o.d o.lanes c.requires.fit) s.one_first_small
 
 pub pick-requires-2-clause-lens : goal.pick-requires-2-clause-lens
 pick-requires-2-clause-lens c =
     let o = c.args.old in
-    let s = c.costs_in.ensures c.args.pair c.all_sums.ensures in
+    let s = c.costs_in.ensures c.requires.sums.0 c.requires.sums.1 in
     add_fits o.a _ o.lanes.a_len s.one_first_len (a_few o.a o.b o.c o.d o.lanes c.requires.fit) s.one_first_small
 
 pub pick-requires-2-clause-odd_lens : goal.pick-requires-2-clause-odd_lens
 pick-requires-2-clause-odd_lens c =
     let o = c.args.old in
-    let s = c.costs_in.ensures c.args.pair c.all_sums.ensures in
+    let s = c.costs_in.ensures c.requires.sums.0 c.requires.sums.1 in
     add_fits o.c _ o.lanes.c_len s.zero_first_len (c_few o.a o.b o.c o.d o.lanes c.requires.fit) s.zero_first_small
 
 pub pick-requires-3-clause-lens : goal.pick-requires-3-clause-lens
 pick-requires-3-clause-lens c =
     let o = c.args.old in
-    let s = c.costs_in.ensures c.args.pair c.all_sums.ensures in
+    let s = c.costs_in.ensures c.requires.sums.0 c.requires.sums.1 in
     add_fits o.b _ o.lanes.b_len s.zero_last_len (b_few o.a o.b o.c o.d o.lanes c.requires.fit) s.zero_last_small
 
 pub pick-requires-3-clause-odd_lens : goal.pick-requires-3-clause-odd_lens
 pick-requires-3-clause-odd_lens c =
     let o = c.args.old in
-    let s = c.costs_in.ensures c.args.pair c.all_sums.ensures in
+    let s = c.costs_in.ensures c.requires.sums.0 c.requires.sums.1 in
     add_fits o.d _ o.lanes.d_len s.one_last_len (d_few o.a o.b o.c o.d o.lanes c.requires.fit) s.one_last_small
 
 pub pick-requires-4-clause-lens : goal.pick-requires-4-clause-lens
 pick-requires-4-clause-lens c =
     let o = c.args.old in
-    let s = c.costs_in.ensures c.args.pair c.all_sums.ensures in
+    let s = c.costs_in.ensures c.requires.sums.0 c.requires.sums.1 in
     add_fits o.b _ o.lanes.b_len s.one_last_len (b_few o.a o.b o.c o.d o.lanes c.requires.fit) s.one_last_small
 
 pub pick-requires-4-clause-odd_lens : goal.pick-requires-4-clause-odd_lens
 pick-requires-4-clause-odd_lens c =
     let o = c.args.old in
-    let s = c.costs_in.ensures c.args.pair c.all_sums.ensures in
+    let s = c.costs_in.ensures c.requires.sums.0 c.requires.sums.1 in
     add_fits o.d _ o.lanes.d_len s.zero_last_len (d_few o.a o.b o.c o.d o.lanes c.requires.fit) s.zero_last_small
 
 pub returns : goal.returns
 returns c =
     let o = c.args.old.lanes in
-    let s = c.costs_in.ensures c.args.pair c.all_sums.ensures in
     record {
-      step =
-          word_step_in c.args.phase c.requires.phase c.args.pair c.args.old.a c.args.old.b c.args.old.c c.args.old.d _ _ _ _ _ _ _ _ _ _ _ _ _ _ o s c.turned_in.ensures c.pick.ensures c.pick-3.ensures c.pick-2.ensures c.pick-4.ensures
+      step = λ pair is.
+          let s = c.costs_in.ensures pair is in
+          word_step_in c.args.phase c.requires.phase pair c.args.old.a c.args.old.b c.args.old.c c.args.old.d _ _ _ _ _ _ _ _ _ _ _ _ _ _ o s c.turned_in.ensures c.pick.ensures c.pick-3.ensures c.pick-2.ensures c.pick-4.ensures
           (c.word_in.ensures.low _ (both_marks _ _ _ _ _ _ _ _ _ _ _ _ o.a_len o.c_len s.zero_first_len s.one_first_len c.pick.ensures c.pick-3.ensures))
           (c.word_in.ensures.high _ (both_marks _ _ _ _ _ _ _ _ _ _ _ _ o.a_len o.c_len s.one_first_len s.zero_first_len c.pick-2.ensures c.pick-4.ensures));
     }
