@@ -93,7 +93,8 @@ Follows first u entry = (entry ≡ first + u) ⊎ ((first ≡ most_places) × (e
 
 -- of n entries each, the entries from number `at` on follow those from number `first` on, u words later
 abbrev pub FollowAll : List ℕ → ℕ → ℕ → ℕ → ℕ → Type 0
-FollowAll entries n first u at = (k : ℕ) → k < n → Follows (slice_index entries (first + k)) u (slice_index entries (at + k))
+FollowAll entries n first u at = (k : ℕ) → k < n
+    → Follows (slice_index entries (first + k)) u (slice_index entries (at + k))
 
 -- each word has n steps, and in each run of a block the entries of a word follow those of the first one
 pub record AreInRuns (n : ℕ) (entries : List ℕ) : Type 0 where

@@ -72,7 +72,8 @@ fn bit_costs(
     weighted(pair, weights[carrier])
 }
 
-// Room for the costs of all places of the words of a block, and a zero entry for the punctured bits of each word of a run.
+// Room for the costs of all places of the words of a block, and zero entries for the punctured bits of the words of a
+// run.
 fn room_for_costs(alloc: Global, places: usize) -> Result<Vec<(u16, u16)>, AllocError>
     requires { places ≡ most_places }
     ensures { IfOk result (λ room. IsRoom room.items) }

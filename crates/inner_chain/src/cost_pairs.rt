@@ -25,11 +25,11 @@ fn write_gathered(
     first: usize,
     to: &mut [CostPair],
 )
+    requires room { first + steps ≤ length to.old }
     requires steps { 2 * steps ≤ length entries.now }
     requires few { steps ≤ 65536 }
     requires within { (k : ℕ) → k < length entries.now → slice_index entries.now k < length costs.now }
     requires small { (k : ℕ) → k < length costs.now → IsSmallPair (pair_at costs.now k) }
-    requires room { first + steps ≤ length to.old }
     ensures here { (t : ℕ) (d : AnyPair) → t < steps → IsRead costs.now entries.now t
         (slice_index_or to.new (first + t) d) }
     ensures before { (k : ℕ) (d : AnyPair) → k < first → slice_index_or to.new k d ≡ slice_index_or to.old k d }
@@ -48,8 +48,8 @@ fn write_gathered(
     }
 }
 
-// Writes a pair for each two entries over those from number `first` on, and keeps the others. `word_steps` are the steps
-// of a word, if the entries are in runs.
+// Writes a pair for each two entries over those from number `first` on, and keeps the others. `word_steps` are the
+// steps of a word, if the entries are in runs.
 pub(crate) fn write_pairs(
     costs: &[(u16, u16)],
     entries: &[u16],
