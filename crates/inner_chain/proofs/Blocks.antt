@@ -23,7 +23,7 @@ use Rattle.bit_interleave.specs.Place.{first_place, offset, place_in_label, word
 use Rattle.symbol_interleave.specs.Carried.{is_odd, place_of_word}
 use Rattle.qam_map.specs.declared.cell.Cell.{Cell}
 use Rattle.inner_chain.specs.CostPairs.{IsPairOf, costs_of_bit, weighted_costs_on}
-use Rattle.inner_chain.specs.CostTables.{blocks, block_coded, block_steps, pair_at, entry_at, IsPlaced, IsRoom, AreCosts, AreCostEntries, IsRead, WritesPairs}
+use Rattle.inner_chain.specs.CostTables.{blocks, block_coded, block_steps, pair_at, entry_at, IsPlaced, IsRoom, AreCosts, AreCostEntries, IsRead, WritesPairs, most_places}
 use Rattle.inner_chain.proofs.Entering.{periods_of}
 
 -- ---- amounts
@@ -130,7 +130,7 @@ number_shifts law s σ b t xy =
 -- the costs at the entry of a coded bit of the first block are, in block b, those of the bit at its place there
 cost_read : (s : Settings) (cells : List Cell) (weights : List ℕ) (l b : ℕ) (σ : Stream) (costs : List (ℕ × ℕ)) (d : Option ℕ) → AreCosts s cells weights l b costs → IsRoom costs → IsPlaced s σ d
     → pair_at costs (entry_at s σ d) ≡ costs_at (costs_of_bit s cells weights l σ) (option_map (λ n. b * block_coded s σ + n) d)
-cost_read s cells weights l b σ costs None a r placed = r.last
+cost_read s cells weights l b σ costs None a r placed = r.last most_places (omega arith)
 cost_read s cells weights l b σ costs (Some d) a r placed =
     a.at (word_of_bit s.shape s.hierarchy σ d) (place_in_label s.shape s.hierarchy σ d) placed.1 placed.2
     ∙ sym (ap₂ (λ (w e : ℕ). weighted_costs_on s cells weights l (place_of_word s.mode (is_odd l) w) e) (word_shifts s.shape s.hierarchy σ b d placed.0) (place_shifts s.shape s.hierarchy σ b d))

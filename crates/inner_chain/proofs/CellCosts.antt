@@ -20,7 +20,7 @@ use Rattle.soft_metric.specs.Squares.{IsSmallPair}
 use Rattle.soft_metric.specs.Weights.{full_weight, weighted}
 use Rattle.qam_map.specs.Cells.{cell_of}
 use Rattle.inner_chain.specs.CostPairs.{weight_of, costs_on, costs_of_bit, weighted_costs_on}
-use Rattle.inner_chain.specs.CostTables.{blocks, carrier_of_word, pair_at, AreWordCells, AreWordWeights, AreWeights, AreCosts, AreCarriers, IsRoom, IsWeightRoom, most_places}
+use Rattle.inner_chain.specs.CostTables.{blocks, carrier_of_word, pair_at, AreWordCells, AreWordWeights, AreWeights, AreCosts, AreCarriers, IsRoom, IsWeightRoom}
 
 -- ---- the carriers of a symbol
 row : (m : Mode) (a q : ℕ) → q < payload m → ((a * payload m + q) / payload m ≡ a) × ((a * payload m + q) % payload m ≡ q)
@@ -115,7 +115,7 @@ pub room_kept : (c : Shape) (n : ℕ) (old new : List (ℕ × ℕ)) → n ≡ 25
     → ((k : ℕ) → IsSmallPair (pair_at old k) → IsSmallPair (pair_at new k)) → ((k : ℕ) → label_bits c * n ≤ k → pair_at new k ≡ pair_at old k) → IsRoom new
 room_kept c n old new e r long small rest = record {
   long = long ∙ r.long;
-  last = rest most_places (room_for c n e) ∙ r.last;
+  last = λ k l. rest k (omega (arith, room_for c n e, l)) ∙ r.last k l;
   small = λ k l. small k (r.small k (omega (arith, l, long)));
 }
 

@@ -8,6 +8,7 @@ mod Blocks
 mod CostEntering
 mod CostReading
 mod CellCosts
+mod Running
 mod Listing
 mod Fronts
 mod Quads

@@ -1,7 +1,7 @@
 -- What the tables of the receiving side hold.
 use Rattle.std.specs.Prelude.{◌≡◌, ℕ, ◌+◌, ◌*◌, ◌/◌, ◌%◌, ◌<◌, ◌≤◌, Bool, if◌then◌else◌, List, ◌++◌, ◌∷◌, [], drop}
 use Rattle.std.specs.Prelude.{length}
-use Rattle.std.specs.Prelude.{Option, Some, None, slice_index, slice_index_or, ⊤}
+use Rattle.std.specs.Prelude.{Option, Some, None, IfSome, slice_index, slice_index_or, ◌⊎◌, ⊤}
 use Rattle.mode_set.specs.StreamTable.{payload, label_bits, carriers, need, rate, width}
 use Rattle.mode_set.specs.declared.modes.Mode.{Mode}
 use Rattle.mode_set.specs.declared.modes.Shape.{Shape}
@@ -38,6 +38,10 @@ block_coded s σ = block_words * width s.shape s.hierarchy σ
 -- the steps of a stream in a block
 abbrev pub block_steps : Settings → Stream → ℕ
 block_steps s σ = need s σ / blocks s.mode
+
+-- the words of a run: the offsets of all bit interleavers are multiples of it
+abbrev pub run_words : ℕ
+run_words = 21
 
 -- the most steps of a block: six bits on each payload carrier, at rate 7/8
 abbrev pub most_block_steps : ℕ
@@ -82,6 +86,22 @@ pub record AreCostEntries (s : Settings) (σ : Stream) (n : ℕ) (entries : List
   pub y_placed : (t : ℕ) → t < n → IsPlaced s σ (number_of (rate s σ) Y t)
   pub small : (k : ℕ) → k < length entries → IsSmallEntry (slice_index entries k)
 
+-- an entry that follows an entry of the first word of a run, u words later: it is as much greater, or both are those of
+-- an unsent bit
+abbrev pub Follows : ℕ → ℕ → ℕ → Type 0
+Follows first u entry = (entry ≡ first + u) ⊎ ((first ≡ most_places) × (entry ≡ most_places))
+
+-- of n entries each, the entries from number `at` on follow those from number `first` on, u words later
+abbrev pub FollowAll : List ℕ → ℕ → ℕ → ℕ → ℕ → Type 0
+FollowAll entries n first u at = (k : ℕ) → k < n
+    → Follows (slice_index entries (first + k)) u (slice_index entries (at + k))
+
+-- each word has n steps, and in each run of a block the entries of a word follow those of the first one
+pub record AreInRuns (n : ℕ) (entries : List ℕ) : Type 0 where
+  pub long : length entries ≡ 2 * (block_words * n)
+  pub at : (r u : ℕ) → r < 12 → u < run_words
+      → FollowAll entries (2 * n) (2 * (run_words * r * n)) u (2 * ((run_words * r + u) * n))
+
 -- the carrier of a word in symbol l
 abbrev pub carrier_of_word : Mode → ℕ → ℕ → ℕ
 carrier_of_word m l w = slice_index (payload_carriers m l) (place_of_word m (is_odd l) w)
@@ -111,10 +131,10 @@ pub record AreCosts (s : Settings) (cells : List Cell) (weights : List ℕ) (l b
     pub at : (w e : ℕ) → w < block_words → e < label_bits s.shape → pair_at costs (e * row + w)
         ≡ weighted_costs_on s cells weights l (place_of_word s.mode (is_odd l) (b * block_words + w)) e
 
--- space for the costs of a block of any labels; its last pair is 0, and no cost exceeds 4095
+-- space for the costs of a block of any labels; the pairs behind them are 0, and no cost exceeds 4095
 pub record IsRoom (costs : List (ℕ × ℕ)) : Type 0 where
-  pub long : length costs ≡ most_places + 1
-  pub last : pair_at costs most_places ≡ (0, 0)
+  pub long : length costs ≡ most_places + run_words
+  pub last : (k : ℕ) → most_places ≤ k → pair_at costs k ≡ (0, 0)
   pub small : (k : ℕ) → k < length costs → IsSmallPair (pair_at costs k)
 
 -- the weights of all carriers, none above 15
@@ -144,6 +164,11 @@ pub record IsRead (costs : List (ℕ × ℕ)) (entries : List ℕ) (t : ℕ) (c 
   pub x : (c.x0, c.x1) ≡ pair_at costs (slice_index entries (2 * t))
   pub y : (c.y0, c.y1) ≡ pair_at costs (slice_index entries (2 * t + 1))
 
+-- the X and the Y of a cost pair are the costs at two entries
+pub record IsPairAt (costs : List (ℕ × ℕ)) (x y : ℕ) (c : CostPair) : Type 0 where
+  pub x_is : (c.x0, c.x1) ≡ pair_at costs x
+  pub y_is : (c.y0, c.y1) ≡ pair_at costs y
+
 -- the cost pairs of the first n steps of symbol l are appended to a list
 pub record AppendsFirst (s : Settings) (cells : List Cell) (weights : List ℕ) (l : ℕ) (σ : Stream) (n : ℕ)
     (old new : List CostPair) : Type 0 where
@@ -164,12 +189,14 @@ pub record IsCostTable (s : Settings) (σ : Stream) (entries : List ℕ) (room :
   pub are : AreCostEntries s σ (block_steps s σ) entries
   pub spare : 2 * most_block_steps ≤ room
 
--- the metric of these parameters, and the tables of both streams
-pub record AreCostTables (s : Settings) (metric : Shape × Hierarchy) (hp lp : List ℕ) (hp_room lp_room : ℕ) : Type
-    0 where
+-- the metric of these parameters, and the tables of both streams; those with a number of steps a word are in runs
+pub record AreCostTables (s : Settings) (metric : Shape × Hierarchy) (hp lp : List ℕ) (hp_room lp_room : ℕ)
+    (hp_steps lp_steps : Option ℕ) : Type 0 where
   pub metric_is : metric ≡ (s.shape, s.hierarchy)
   pub of_hp : IsCostTable s Hp hp hp_room
   pub of_lp : IsCostTable s Lp lp lp_room
+  pub hp_runs : IfSome hp_steps (λ n. AreInRuns n hp)
+  pub lp_runs : IfSome lp_steps (λ n. AreInRuns n lp)
 
 -- what is seen of the tables: the settings of the transmission, and the parameters of the last symbol
 pub record TablesState : Type 0 where

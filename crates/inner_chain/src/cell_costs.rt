@@ -8,7 +8,7 @@ ghost use Rattle.inner_chain.specs.CostPairs.{costs_of_bit};
 ghost use Rattle.inner_chain.specs.CostTables.{AreCarriers, AreCosts, AreWeights, IsRoom, IsWeightRoom, blocks};
 ghost use Rattle.inner_chain.specs.CostTables.{most_places};
 
-use crate::cost_entries::{BLOCK_WORDS, ROW, carriers_of};
+use crate::cost_entries::{BLOCK_WORDS, ROW, RUN_WORDS, carriers_of};
 use bit_interleave::place;
 use mode_set::{Carriers, Mode, Settings, Stream};
 use pilots::kinds_repeat;
@@ -72,12 +72,13 @@ fn bit_costs(
     weighted(pair, weights[carrier])
 }
 
-// Room for the costs of all places of the words of a block, and one zero entry for punctured bits.
+// Room for the costs of all places of the words of a block, and zero entries for the punctured bits of the words of a
+// run.
 fn room_for_costs(alloc: Global, places: usize) -> Result<Vec<(u16, u16)>, AllocError>
     requires { places ≡ most_places }
     ensures { IfOk result (λ room. IsRoom room.items) }
 {
-    vec![in alloc; (0u16, 0u16); places + 1]
+    vec![in alloc; (0u16, 0u16); places + RUN_WORDS]
 }
 
 // Room for the weights of the words.

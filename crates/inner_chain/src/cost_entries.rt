@@ -19,8 +19,11 @@ pub(crate) const BLOCK_WORDS: usize = 252;
 // The costs of a block at a place of the label: those of its words, and four more, so that they are sixteens.
 pub(crate) const ROW: usize = 256;
 
+// The words of a run: the offsets of all bit interleavers are multiples of it (EN 300 744, 4.3.4.1).
+pub(crate) const RUN_WORDS: usize = 21;
+
 // The entry of an unsent bit: that behind the costs of the most places.
-const NO_ENTRY: u16 = 1536;
+pub(crate) const NO_ENTRY: u16 = 1536;
 
 // The blocks of a symbol.
 pub(crate) fn blocks(mode: Mode) -> u32

@@ -1,11 +1,12 @@
 // The tables of the receiving side, turned to the parameters of a symbol.
-ghost use Rattle.std.specs.Prelude.{◌≡◌, IfOk};
+ghost use Rattle.std.specs.Prelude.{◌≡◌, IfOk, IfSome};
 ghost use Rattle.mode_set.specs.Entries.{with_entry};
 ghost use Rattle.mode_set.specs.StreamTable.{need};
-ghost use Rattle.inner_chain.specs.CostTables.{AreCostEntries, block_steps, settings_of};
+ghost use Rattle.inner_chain.specs.CostTables.{AreCostEntries, AreInRuns, block_steps, settings_of};
 
 use crate::alike::are_alike;
 use crate::cost_entries::{cost_table, write_cost_entries};
+use crate::runs::steps_of_word;
 use mode_set::{Entry, Settings, Stream};
 use soft_metric::AxisMetric;
 use std::alloc::{AllocError, Global};
@@ -21,6 +22,9 @@ pub(crate) struct CostTables {
     metric: AxisMetric,
     hp: Vec<u16>,
     lp: Vec<u16>,
+    // The steps of a word, if the entries are in runs.
+    hp_steps: Option<usize>,
+    lp_steps: Option<usize>,
 }
 
 impl Model for CostTables {
@@ -33,7 +37,7 @@ impl Model for CostTables {
     ghost view = { λ t. record { settings = t.settings; latest = t.latest } };
 
     ghost invariant = { λ t. AreCostTables (with_entry t.settings t.latest) t.metric t.hp.items t.lp.items
-        (vec_capacity t.hp) (vec_capacity t.lp) };
+        (vec_capacity t.hp) (vec_capacity t.lp) t.hp_steps t.lp_steps };
 }
 
 impl CostTables {
@@ -45,12 +49,16 @@ impl CostTables {
         let first = settings.with_entry(&latest);
         let hp = cost_table(alloc, &first, Stream::Hp)?;
         let lp = cost_table(alloc, &first, Stream::Lp)?;
+        let hp_steps = steps_of_word(&hp);
+        let lp_steps = steps_of_word(&lp);
         Ok(CostTables {
             settings: *settings,
             latest,
             metric: AxisMetric::new(first.shape, first.hierarchy),
             hp,
             lp,
+            hp_steps,
+            lp_steps,
         })
     }
 
@@ -68,6 +76,8 @@ impl CostTables {
         self.metric = AxisMetric::new(settings.shape, settings.hierarchy);
         write_cost_entries(&settings, Stream::Hp, &mut self.hp);
         write_cost_entries(&settings, Stream::Lp, &mut self.lp);
+        self.hp_steps = steps_of_word(&self.hp);
+        self.lp_steps = steps_of_word(&self.lp);
     }
 
     /// The steps of a stream in a symbol of these parameters.
@@ -91,13 +101,15 @@ impl CostTables {
         &self.metric
     }
 
-    /// The entries of the steps of a stream in a block.
-    pub(crate) fn entries(&self, stream: Stream) -> &[u16]
-        ensures { AreCostEntries (settings_of self.now) stream (block_steps (settings_of self.now) stream) result.now }
+    /// The entries of the steps of a stream in a block, and the steps of a word, if the entries are in runs.
+    pub(crate) fn entries(&self, stream: Stream) -> (&[u16], Option<usize>)
+        ensures entries { AreCostEntries (settings_of self.now) stream (block_steps (settings_of self.now) stream)
+            result.0.now }
+        ensures runs { IfSome result.1 (λ n. AreInRuns n result.0.now) }
     {
         match stream {
-            Stream::Hp => &self.hp,
-            Stream::Lp => &self.lp,
+            Stream::Hp => (&self.hp, self.hp_steps),
+            Stream::Lp => (&self.lp, self.lp_steps),
         }
     }
 }

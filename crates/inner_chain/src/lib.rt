@@ -14,6 +14,7 @@ mod label_tables;
 pub mod laws;
 mod parities;
 mod plain;
+mod runs;
 mod rx;
 mod sent_parity;
 mod symbol;

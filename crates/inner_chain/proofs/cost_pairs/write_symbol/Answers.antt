@@ -12,15 +12,15 @@ loop-block-preserved c =
     let costs : AreCosts s c.args.cells.now c.args.weights.now c.args.l c.loop-block.block c.costs-list.result.now
     = subst (λ (z : List (ℕ × ℕ)). AreCosts s c.args.cells.now c.args.weights.now c.args.l c.loop-block.block z) (sym c.costs-list.ensures) c.write.ensures.costs in
     let room : IsRoom c.costs-list.result.now = subst (λ (z : List (ℕ × ℕ)). IsRoom z) (sym c.costs-list.ensures) c.write.ensures.room in
-    let hp_entries : AreCostEntries s Hp (block_steps s Hp) c.entries-hp_entries.result.now = subst (λ (z : Settings). AreCostEntries z Hp (block_steps z Hp) c.entries-hp_entries.result.now) (sym c.settings-settings.ensures) c.entries-hp_entries.ensures in
-    let lp_entries : AreCostEntries s Lp (block_steps s Lp) c.entries-lp_entries.result.now = subst (λ (z : Settings). AreCostEntries z Lp (block_steps z Lp) c.entries-lp_entries.result.now) (sym c.settings-settings.ensures) c.entries-lp_entries.ensures in
+    let hp_entries : AreCostEntries s Hp (block_steps s Hp) c.entries-hp_table.result.0.now = subst (λ (z : Settings). AreCostEntries z Hp (block_steps z Hp) c.entries-hp_table.result.0.now) (sym c.settings-settings.ensures) c.entries-hp_table.ensures.entries in
+    let lp_entries : AreCostEntries s Lp (block_steps s Lp) c.entries-lp_table.result.0.now = subst (λ (z : Settings). AreCostEntries z Lp (block_steps z Lp) c.entries-lp_table.result.0.now) (sym c.settings-settings.ensures) c.entries-lp_table.ensures.entries in
     let hp_steps : c.block_steps-hp_steps.result ≡ block_steps s Hp = c.block_steps-hp_steps.ensures.steps in
     let lp_steps : c.block_steps-lp_steps.result ≡ block_steps s Lp = c.block_steps-lp_steps.ensures.steps in
     record {
       mode = c.write.ensures.mode ∙ c.loop-block.invariant.mode;
-      hp = block_more c.periods_shift.ensures s c.args.cells.now c.args.weights.now c.args.l c.loop-block.block Hp c.costs-list.result.now c.entries-hp_entries.result.now (c.loop-block.block * c.block_steps-hp_steps.result) c.block_steps-hp_steps.result _ _ _
+      hp = block_more c.periods_shift.ensures s c.args.cells.now c.args.weights.now c.args.l c.loop-block.block Hp c.costs-list.result.now c.entries-hp_table.result.0.now (c.loop-block.block * c.block_steps-hp_steps.result) c.block_steps-hp_steps.result _ _ _
           (ap (λ (z : ℕ). c.loop-block.block * z) hp_steps) hp_steps costs room hp_entries c.loop-block.invariant.hp c.write_pairs.ensures.here c.write_pairs.ensures.before c.write_pairs.ensures.rest c.write_pairs.ensures.long;
-      lp = block_more c.periods_shift.ensures s c.args.cells.now c.args.weights.now c.args.l c.loop-block.block Lp c.costs-list.result.now c.entries-lp_entries.result.now (c.loop-block.block * c.block_steps-lp_steps.result) c.block_steps-lp_steps.result _ _ _
+      lp = block_more c.periods_shift.ensures s c.args.cells.now c.args.weights.now c.args.l c.loop-block.block Lp c.costs-list.result.now c.entries-lp_table.result.0.now (c.loop-block.block * c.block_steps-lp_steps.result) c.block_steps-lp_steps.result _ _ _
           (ap (λ (z : ℕ). c.loop-block.block * z) lp_steps) lp_steps costs room lp_entries c.loop-block.invariant.lp c.write_pairs-in-loop-block.ensures.here c.write_pairs-in-loop-block.ensures.before c.write_pairs-in-loop-block.ensures.rest c.write_pairs-in-loop-block.ensures.long;
     }
 

@@ -1,7 +1,7 @@
 use Rattle.std.proofs.Common.{ℕ, ◌+◌, ◌<◌, ◌∙◌, refl, arith, length, length-set}
 use Rattle.std.proofs.lemmas.List.{drop-set-lt}
 use Rattle.inner_chain.proofs.CostReading.{before_more, here_more}
-use Rattle.inner_chain.proofs.cost_pairs.write_pairs.Goals as goal
+use Rattle.inner_chain.proofs.cost_pairs.write_gathered.Goals as goal
 
 pub loop-step-preserved : goal.loop-step-preserved
 loop-step-preserved c =

@@ -2,7 +2,7 @@ use Rattle.std.proofs.Common.{◌≡◌, ◌+◌, ◌<◌, ◌≤◌, ℕ, drop,
 use Rattle.std.specs.Prelude.{slice_index_or}
 use Rattle.code_paths.specs.declared.costs.CostPair.{CostPair}
 use Rattle.inner_chain.specs.CostTables.{IsRead}
-use Rattle.inner_chain.proofs.cost_pairs.write_pairs.Given as goal
+use Rattle.inner_chain.proofs.cost_pairs.write_gathered.Given as goal
 
 abbrev pub invariant-loop-step : goal.invariant-loop-step
 invariant-loop-step l = record {

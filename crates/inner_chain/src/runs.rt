@@ -1,0 +1,164 @@
+// Runs of words: 21 in a row, whose bits at a place of the label come in the order of the words.
+ghost use Rattle.std.specs.Prelude.{◌≡◌, ◌≢◌, ◌+◌, ◌*◌, ◌<◌, ◌≤◌, ℕ, IfSome, IsTrue, drop, length, slice_index};
+ghost use Rattle.std.specs.Prelude.{slice_index_or};
+ghost use Rattle.code_paths.specs.declared.costs.CostPair.{CostPair as AnyPair};
+ghost use Rattle.inner_chain.specs.CostTables.{AreInRuns, Follows, FollowAll, IsPairAt, IsRead, IsRoom, IsSmallEntry};
+ghost use Rattle.inner_chain.specs.CostTables.{run_words};
+
+use crate::cost_entries::{BLOCK_WORDS, NO_ENTRY, RUN_WORDS};
+use conv_code::CostPair;
+
+// The runs of a block.
+const RUNS: usize = BLOCK_WORDS / RUN_WORDS;
+
+// Whether an entry follows that of the first word of a run, so many words later.
+fn follows(first: u16, words: usize, entry: u16) -> bool
+    requires { words < run_words }
+    ensures { IsTrue result → Follows first words entry }
+{
+    entry as usize == first as usize + words || first == NO_ENTRY && entry == NO_ENTRY
+}
+
+// Whether so many entries from number `at` on follow those from number `first` on.
+fn all_follow(entries: &[u16], number: usize, first: usize, words: usize, at: usize) -> bool
+    requires words { words < run_words }
+    requires first { first + number ≤ length entries.now }
+    requires at { at + number ≤ length entries.now }
+    ensures { IsTrue result → FollowAll entries.now number first words at }
+{
+    for k in 0..number {
+        if !follows(entries[first + k], words, entries[at + k]) {
+            return false;
+        }
+    }
+    true
+}
+
+// Whether in a run of words of so many steps the entries of each follow those of the first one.
+fn is_run(entries: &[u16], steps: usize, run: usize) -> bool
+    requires steps { steps ≤ 65536 }
+    requires run { run < 12 }
+    requires long { length entries.now ≡ 2 * (252 * steps) }
+    ensures { IsTrue result → (u : ℕ) → u < run_words → FollowAll entries.now (2 * steps)
+        (2 * (run_words * run * steps)) u (2 * ((run_words * run + u) * steps)) }
+{
+    let first = RUN_WORDS * run;
+    for word in 0..RUN_WORDS {
+        if !all_follow(
+            entries,
+            2 * steps,
+            2 * (first * steps),
+            word,
+            2 * ((first + word) * steps),
+        ) {
+            return false;
+        }
+    }
+    true
+}
+
+// The steps of a word, if the entries of a block are in runs.
+pub(crate) fn steps_of_word(entries: &[u16]) -> Option<usize>
+    requires { length entries.now ≤ 65536 }
+    ensures { IfSome result (λ n. AreInRuns n entries.now) }
+{
+    let steps = entries.len() / (2 * BLOCK_WORDS);
+    if entries.len() != 2 * (BLOCK_WORDS * steps) {
+        return None;
+    }
+    for run in 0..RUNS {
+        if !is_run(entries, steps, run) {
+            return None;
+        }
+    }
+    Some(steps)
+}
+
+// Writes the pairs of a step of each word of a run, whose first word has the entries `x` and `y` at this step. Those
+// pairs stand `steps` apart, from number `first` on.
+fn write_run(
+    costs: &[(u16, u16)],
+    x: usize,
+    y: usize,
+    steps: usize,
+    first: usize,
+    to: &mut [CostPair],
+)
+    requires x { x ≤ 1536 }
+    requires y { y ≤ 1536 }
+    requires costs { IsRoom costs.now }
+    requires some { 0 < steps }
+    requires steps { steps ≤ 65536 }
+    requires room { first + 20 * steps < length to.old }
+    ensures here { (u : ℕ) (d : AnyPair) → u < run_words → IsPairAt costs.now (x + u) (y + u)
+        (slice_index_or to.new (first + u * steps) d) }
+    ensures others { (k : ℕ) (d : AnyPair) → ((u : ℕ) → u < run_words → k ≢ first + u * steps)
+        → slice_index_or to.new k d ≡ slice_index_or to.old k d }
+    ensures rest { (k : ℕ) → first + 20 * steps < k → drop k to.new ≡ drop k to.old }
+    ensures long { length to.new ≡ length to.old }
+{
+    for word in 0..RUN_WORDS {
+        let of_x = costs[x + word];
+        let of_y = costs[y + word];
+        to[first + word * steps] = CostPair {
+            x0: of_x.0,
+            x1: of_x.1,
+            y0: of_y.0,
+            y1: of_y.1,
+        };
+    }
+}
+
+// Writes the pairs of all steps of the words of a run, whose first word has the entries from those of step `start` on.
+fn write_words(
+    costs: &[(u16, u16)],
+    entries: &[u16],
+    steps: usize,
+    start: usize,
+    first: usize,
+    to: &mut [CostPair],
+)
+    requires steps { steps ≤ 65536 }
+    requires entries { (k : ℕ) → k < length entries.now → IsSmallEntry (slice_index entries.now k) }
+    requires within { 2 * (start + steps) ≤ length entries.now }
+    requires costs { IsRoom costs.now }
+    requires room { first + 21 * steps ≤ length to.old }
+    ensures here { (u s : ℕ) (d : AnyPair) → u < run_words → s < steps → IsPairAt costs.now
+        (slice_index entries.now (2 * (start + s)) + u) (slice_index entries.now (2 * (start + s) + 1) + u)
+        (slice_index_or to.new (first + s + u * steps) d) }
+    ensures before { (k : ℕ) (d : AnyPair) → k < first → slice_index_or to.new k d ≡ slice_index_or to.old k d }
+    ensures rest { (k : ℕ) → first + 21 * steps ≤ k → drop k to.new ≡ drop k to.old }
+    ensures long { length to.new ≡ length to.old }
+{
+    for step in 0..steps {
+        let x = entries[2 * (start + step)] as usize;
+        let y = entries[2 * (start + step) + 1] as usize;
+        write_run(costs, x, y, steps, first + step, to);
+    }
+}
+
+// Writes a pair for each two entries over those from number `first` on, and keeps the others: for entries in runs of
+// words of so many steps.
+pub(crate) fn write_runs(
+    costs: &[(u16, u16)],
+    entries: &[u16],
+    steps: usize,
+    first: usize,
+    to: &mut [CostPair],
+)
+    requires steps { steps ≤ 65536 }
+    requires runs { AreInRuns steps entries.now }
+    requires entries { (k : ℕ) → k < length entries.now → IsSmallEntry (slice_index entries.now k) }
+    requires costs { IsRoom costs.now }
+    requires room { first + 252 * steps ≤ length to.old }
+    ensures here { (t : ℕ) (d : AnyPair) → t < 252 * steps → IsRead costs.now entries.now t
+        (slice_index_or to.new (first + t) d) }
+    ensures before { (k : ℕ) (d : AnyPair) → k < first → slice_index_or to.new k d ≡ slice_index_or to.old k d }
+    ensures rest { (k : ℕ) → first + 252 * steps ≤ k → drop k to.new ≡ drop k to.old }
+    ensures long { length to.new ≡ length to.old }
+{
+    for run in 0..RUNS {
+        let start = RUN_WORDS * run * steps;
+        write_words(costs, entries, steps, start, first + start, to);
+    }
+}
