@@ -12,3 +12,4 @@ mod Running
 mod Listing
 mod Fronts
 mod Quads
+mod Pairing

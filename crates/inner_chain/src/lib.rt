@@ -18,6 +18,7 @@ mod runs;
 mod rx;
 mod sent_parity;
 mod symbol;
+mod twos;
 mod tx;
 
 pub use rx::InnerRx;
