@@ -1,11 +1,13 @@
 -- Steps on many pairs, with all states alive.
-use Rattle.std.proofs.Common.{◌≡◌, ℕ, zero, suc, ◌+◌, ◌/◌, ◌^◌, ◌<◌, ◌≤◌, Bool, List, [], ◌∷◌, ◌++◌, length, refl, sym, ap, ◌∙◌, subst, subst₂, arith, length-append, append_assoc, append-nil, lit<}
+use Rattle.std.proofs.Common.{◌≡◌, ℕ, zero, suc, ◌+◌, ◌/◌, ◌^◌, ◌<◌, ◌≤◌, Bool, true, List, [], ◌∷◌, ◌++◌, length, take, drop, refl, sym, ap, ◌∙◌, subst, subst₂, arith, length-append, append_assoc, append-nil, lit<}
 use Rattle.std.proofs.Math.Nat.{pow-suc}
+use Rattle.std.proofs.Math.Seq.{take-append_seam}
 use Rattle.std.proofs.lemmas.Bool.{or_left, eqb-true}
 use Rattle.std.proofs.lemmas.Nat.Bits.{bit_at_lowest, bit_at-suc}
 use Rattle.std.specs.Prelude.{IsTrue}
 use Rattle.std.specs.Int.{bit_at}
 use Rattle.std.specs.declared.option.Option.{Option}
+use Rattle.std.specs.declared.option.Option.TheVariants.{None, Some}
 use Rattle.std.specs.Option.{option_to_list}
 use Rattle.code_paths.specs.declared.costs.CostPair.{CostPair}
 use Rattle.code_paths.specs.States.{even_of, before}
@@ -14,14 +16,14 @@ use Rattle.spec_words.specs.Bits.{is_set}
 use Rattle.acs_plain.specs.declared.sums.Sums.{Sums}
 use Rattle.acs_plain.specs.Steps.{alive, IsStep, AreSteps, SomeAlive}
 use Rattle.survivor_ring.specs.Ring.{root, trace}
-use Rattle.survivor_ring.specs.Survivors.{IsPushed, AreAllPushed}
+use Rattle.survivor_ring.specs.Survivors.{IsPushed, AreAllPushed, IsAlike, GivesAway, all_pushed}
 use Rattle.inner_decoder.specs.Seen.{rows_below}
 use Rattle.inner_decoder.specs.Tracking.{StandsBy}
 use Rattle.inner_decoder.specs.Running.{Ran}
-use Rattle.inner_decoder.specs.Settling.{IsAdvanced, Settles}
+use Rattle.inner_decoder.specs.Settling.{IsForced, Settles, SettlesAll}
 use Rattle.inner_decoder.proofs.Fresh.{any_lives}
 use Rattle.inner_decoder.proofs.Rows64.{to_rows}
-use Rattle.inner_decoder.proofs.Stand.{pushed, stands_quiet}
+use Rattle.inner_decoder.proofs.Stand.{pushed, stands_quiet, settled_quiet, settled_given, settled_forced}
 
 -- ---- metrics with all states alive
 
@@ -113,15 +115,15 @@ last_step most old waits waiting steps a c g (x ∷ y ∷ ys) new (word ∷ rest
     }
 
 -- a slice of steps and the check after it
-pub slice_ran : (most : ℕ) (old : Sums) (waits : ℕ → List Bool) (waiting steps : ℕ) (a : Option (List Bool)) (c : List CostPair) (g : List Bool) (xs : List CostPair) (mid : Sums) (lists : ℕ → List Bool) (count : ℕ)
+pub slice_ran : (most : ℕ) (old : Sums) (waits : ℕ → List Bool) (waiting steps : ℕ) (a : Option (List Bool)) (c : List CostPair) (g : List Bool) (xs : List CostPair) (ds : List ℕ) (mid : Sums) (count : ℕ)
     (new : Sums) (less : ℕ → List Bool) (left number : ℕ) (e : Bool) (from to : List Bool) (r : Option ℕ)
-    → old.alive ≡ 18446744073709551615 → StandsBy most old waits waiting steps a c g → IsAdvanced old waits xs mid lists → 0 < length xs → count ≡ waiting + length xs → count ≤ most + 1
-    → Settles most mid lists count new less left number from to r → number ≡ steps + length xs
+    → old.alive ≡ 18446744073709551615 → StandsBy most old waits waiting steps a c g → AreSteps old xs mid ds → SomeAlive mid → 0 < length xs → count ≡ waiting + length xs → count ≤ most + 1
+    → SettlesAll most waits ds mid count new less left number from to r → number ≡ steps + length xs
     → Ran most (record { sums = new; rows = rows_below less 64; waiting = left; steps = number; ended = e }) a c g xs from to (option_to_list r)
-slice_ran most old waits waiting steps a c g xs mid lists count new less left number e from to r v h s l m w f n =
-    let q = last_step most old waits waiting steps a c g xs mid s.words lists (all_lives old v) h s.steps s.push l (omega (arith, m, w)) in
+slice_ran most old waits waiting steps a c g xs ds mid count new less left number e from to r v h s o l m w f n =
+    let q = last_step most old waits waiting steps a c g xs mid ds f.lists (all_lives old v) h s f.push l (omega (arith, m, w)) in
     let long : length xs ≡ length q.front + 1 = ap length q.is ∙ length-append q.front (q.pair ∷ []) in
-    let u = f.each q.sums q.lists (waiting + length q.front) (steps + length q.front) q.pair q.answer q.step s.some q.push (omega (arith, m, long)) (omega (arith, n, long)) a (c ++ q.front) g q.stands in
+    let u = f.settles.each q.sums q.lists (waiting + length q.front) (steps + length q.front) q.pair q.answer q.step o q.push (omega (arith, m, long)) (omega (arith, n, long)) a (c ++ q.front) g q.stands in
     let joined : (c ++ q.front) ++ q.pair ∷ [] ≡ c ++ xs = append_assoc c q.front (q.pair ∷ []) ∙ ap (λ z. c ++ z) (sym q.is) in
     record {
       more = u.more;
@@ -129,3 +131,41 @@ slice_ran most old waits waiting steps a c g xs mid lists count new less left nu
       stands = to_rows most new less left number a (c ++ xs) (g ++ u.more) (subst (λ z. StandsBy most new less left number a z (g ++ u.more)) joined u.stands);
       reports = λ rs z. subst (λ y. Reports most a y (rs ++ option_to_list r)) joined (u.reports rs (q.reports rs z));
     }
+
+-- ---- the check after it, by what the survivors do at once
+
+pub settled_all_quiet : (most : ℕ) (waits : ℕ → List Bool) (words : List ℕ) (sums : Sums) (count : ℕ) (lists : ℕ → List Bool) (count2 states steps : ℕ) (to : List Bool) → states ≡ sums.alive → AreAllPushed waits words lists → count2 ≡ count → count2 ≤ most
+    → SettlesAll most waits words sums count sums lists count2 steps to to None
+settled_all_quiet most waits words sums count lists count2 states steps to t p e l = record {
+  lists = lists;
+  push = p;
+  settles = subst (λ z. Settles most sums lists z sums lists count2 steps to to None) e (settled_quiet most sums lists count2 states steps to t l);
+}
+
+pub settled_all_given : (most : ℕ) (waits : ℕ → List Bool) (words : List ℕ) (sums : Sums) (count states steps k : ℕ) (less : ℕ → List Bool) (count2 : ℕ) (to to2 : List Bool) → states ≡ sums.alive → 0 < k → IsAlike states (all_pushed waits words) count k
+    → ((n : ℕ) → n < 64 → less n ≡ drop k (all_pushed waits words n)) → GivesAway states (all_pushed waits words) k to to2 → count2 + k ≡ count → SettlesAll most waits words sums count sums less count2 steps to to2 None
+settled_all_given most waits words sums count states steps k less count2 to to2 t w i f v u = record {
+  lists = all_pushed waits words;
+  push = record { each = λ n l. refl };
+  settles = settled_given most sums (all_pushed waits words) count states steps k less count2 to to2 t w i (λ n l z. f n l) v (omega (arith, u));
+}
+
+pub settled_all_forced : (most : ℕ) (waits : ℕ → List Bool) (words : List ℕ) (sums : Sums) (count states steps k : ℕ) (lists : ℕ → List Bool) (sums2 : Sums) (waits2 : ℕ → List Bool) (count2 : ℕ) (to mid to2 : List Bool) → states ≡ sums.alive → most < count → k ≤ 0
+    → IsAlike states (all_pushed waits words) count k → ((n : ℕ) → n < 64 → lists n ≡ drop k (all_pushed waits words n)) → GivesAway states (all_pushed waits words) k to mid → IsForced sums lists sums2 waits2 mid to2 → count2 ≡ 0
+    → SettlesAll most waits words sums count sums2 waits2 count2 steps to to2 (Some steps)
+settled_all_forced most waits words sums count states steps zero lists sums2 waits2 count2 to mid to2 t w z i f v b d = record {
+  lists = lists;
+  push = record { each = λ n l. f n l };
+  settles = settled_forced most sums lists count states steps b.state sums2 waits2 count2 0 to to2 t w (omega arith) same b.best (b.given ∙ ap (λ z. z ++ lists b.state) none) b.lives b.cost b.none d;
+}
+  where
+    none : mid ≡ to
+    none = v b.state b.best.below (subst (λ y. is_set y b.state ≡ true) (sym t) b.best.lives) ∙ append-nil to
+
+    same : IsAlike states lists count 0
+    same = record { within = omega arith; alike = λ m n x y p q. refl; most = λ j l e. i.most j l (λ m n x y p q. ap (take j) (sym (f m x)) ∙ e m n x y p q ∙ ap (take j) (f n y)) }
+settled_all_forced most waits words sums count states steps (suc k) lists sums2 waits2 count2 to mid to2 t w z i f v b d = absurd (omega (arith, z))
+
+-- the words that were written at the front
+pub front_is : (n : ℕ) (part rest : List ℕ) → length part ≡ n → take n (part ++ rest) ≡ part
+front_is n part rest e = ap (λ z. take z (part ++ rest)) (sym e) ∙ take-append_seam part rest

@@ -1,12 +1,13 @@
 -- What a decoder does after a step, in terms of the survivors' lists.
-use Rattle.std.specs.Prelude.{◌≡◌, ℕ, ◌+◌, Bool, List, [], ◌∷◌, ◌++◌}
+use Rattle.std.specs.Prelude.{◌≡◌, ℕ, ◌+◌, ◌^◌, Bool, List, [], ◌∷◌, ◌++◌, slice_index}
 use Rattle.std.specs.declared.option.Option.{Option}
 use Rattle.std.specs.Option.{option_to_list, IfSome}
 use Rattle.code_paths.specs.declared.costs.CostPair.{CostPair}
 use Rattle.acs_plain.specs.declared.sums.Sums.{Sums}
-use Rattle.acs_plain.specs.Steps.{IsStep, AreSteps, SomeAlive}
+use Rattle.acs_plain.specs.Steps.{IsStep, SomeAlive}
 use Rattle.survivor_ring.specs.Survivors.{IsPushed, AreAllPushed}
 use Rattle.code_paths.specs.Streams.{Reports, Given}
+use Rattle.inner_decoder.specs.Metrics.{IsBest}
 use Rattle.inner_decoder.specs.Tracking.{StandsBy}
 
 -- metrics and pending bits after a step on x
@@ -27,10 +28,19 @@ pub record Settles (most : ℕ) (mid : Sums) (pushed : ℕ → List Bool) (count
       → (a : Option (List Bool)) (c : List CostPair) (g : List Bool) → StandsBy most old lists before n a c g
       → SteppedBy most new waits waiting steps a c g x from to r
 
--- metrics and lists after steps on the pairs in order
-pub record IsAdvanced (old : Sums) (lists : ℕ → List Bool) (pairs : List CostPair) (new : Sums) (waits : ℕ → List Bool)
+-- The same of many steps with all states alive and these decision words: `lists` are the survivors' lists after them.
+pub record SettlesAll (most : ℕ) (waits : ℕ → List Bool) (words : List ℕ) (mid : Sums) (count : ℕ) (new : Sums)
+    (less : ℕ → List Bool) (left steps : ℕ) (from to : List Bool) (r : Option ℕ) : Type 0 where
+  pub lists : ℕ → List Bool
+  pub push : AreAllPushed waits words lists
+  pub settles : Settles most mid lists count new less left steps from to r
+
+-- the bits of the least path are given, and only its last state stays alive
+pub record IsForced (old : Sums) (lists : ℕ → List Bool) (new : Sums) (waits : ℕ → List Bool) (from to : List Bool)
     : Type 0 where
-  pub words : List ℕ
-  pub steps : AreSteps old pairs new words
-  pub push : AreAllPushed lists words waits
-  pub some : SomeAlive new
+  pub state : ℕ
+  pub best : IsBest old state
+  pub given : to ≡ from ++ lists state
+  pub lives : new.alive ≡ 2 ^ state
+  pub cost : slice_index new.cost state ≡ 0
+  pub none : waits state ≡ []

@@ -12,6 +12,7 @@ ghost use Rattle.inner_decoder.specs.Running.{Ran, RanSymbol};
 ghost use Rattle.inner_decoder.specs.Events.{ats, at_of};
 ghost use Rattle.inner_decoder.specs.Starts.{start_of};
 
+use crate::decoder::SLICE;
 use crate::{Decoder, StartState, Unmerged};
 use acs_plain::Acs;
 use arrayvec::ArrayVec;
@@ -52,9 +53,10 @@ fn run<A: Acs, V: Survivors<2048>>(
     ensures ran { (a : Option (List Bool)) (c : List CostPair) (g : List Bool) → Stands 2048 decoder.old a c g
         → Ran 2048 decoder.new a c g pairs.now to.old to.new (ats events.new.items) }
 {
+    let mut words = [0u64; SLICE];
     let mut taken = 0;
     while taken < pairs.len() {
-        let (count, report) = decoder.run_slice(&pairs[taken..], to);
+        let (count, report) = decoder.run_part(&pairs[taken..], &mut words, to);
         note(events, report);
         taken += count;
     }

@@ -7,7 +7,7 @@ ghost use Rattle.code_paths.specs.Streams.{Reports};
 ghost use Rattle.inner_decoder.specs.Tracking.{Stands, Stepped, Gave, Finished};
 ghost use Rattle.inner_decoder.specs.Events.{at_of};
 ghost use Rattle.inner_decoder.specs.Running.{Ran};
-ghost use Rattle.inner_decoder.specs.Settling.{IsAdvanced, Settles};
+ghost use Rattle.inner_decoder.specs.Settling.{IsForced, Settles, SettlesAll};
 
 use crate::held::Held;
 use crate::metric::Metric;
@@ -35,27 +35,27 @@ pub struct Unmerged {
     pub at: u64,
 }
 
-/// The most steps of a slice.
-const SLICE: usize = 512;
+/// The most steps of a slice. With a path memory of 2048 steps most bits are given straight from the decision words of a
+/// slice, and only the rest is pushed.
+pub(crate) const SLICE: usize = 2049;
 
-/// Steps on each of the pairs in order, with all states alive; the words are the decision words.
-fn advance<A: Acs, V: Survivors<L>, const L: usize>(
+/// A report: gives all pending bits of the least path. Only its register stays alive.
+fn force_least<V: Survivors<L>, const L: usize>(
     metric: &mut Metric,
     survivors: &mut Held<V, L>,
-    pairs: &[CostPair],
-    words: &mut [u64],
+    to: &mut WaitBuf,
 )
-    requires all { metric.old.alive ≡ 2 ^ 64 - 1 }
     requires tied { V.states survivors.old.inner.value ≡ metric.old.alive }
-    requires size { length words.old ≡ length pairs.now }
-    requires room { V.count survivors.old.inner.value + length pairs.now ≤ L + 1 }
+    requires room { length to.old + V.count survivors.old.inner.value ≤ 36864 }
     ensures tied { V.states survivors.new.inner.value ≡ metric.new.alive }
-    ensures count { V.count survivors.new.inner.value ≡ V.count survivors.old.inner.value + length pairs.now }
-    ensures advanced { IsAdvanced metric.old (V.list survivors.old.inner.value) pairs.now metric.new
-        (V.list survivors.new.inner.value) }
+    ensures count { V.count survivors.new.inner.value ≡ 0 }
+    ensures amount { length to.new ≡ length to.old + V.count survivors.old.inner.value }
+    ensures forced { IsForced metric.old (V.list survivors.old.inner.value) metric.new
+        (V.list survivors.new.inner.value) to.old to.new }
 {
-    metric.run::<A>(pairs, words);
-    survivors.push_all(words);
+    let end = metric.best();
+    survivors.force(end, to);
+    *metric = Metric::only(end);
 }
 
 /// The end of step number `steps`: bits are given, or a report is made if more than `L` bits are pending.
@@ -86,9 +86,42 @@ fn settle<V: Survivors<L>, const L: usize>(
         survivors.give(shared, to);
         return None;
     }
-    let end = metric.best();
-    survivors.force(end, to);
-    *metric = Metric::only(end);
+    force_least(metric, survivors, to);
+    Some(Unmerged { at: steps })
+}
+
+/// Takes the decision words of steps with all states alive, the last of them step number `steps`, and ends it as
+/// `settle` does.
+fn settle_all<V: Survivors<L>, const L: usize>(
+    metric: &mut Metric,
+    survivors: &mut Held<V, L>,
+    words: &[u64],
+    steps: u64,
+    to: &mut WaitBuf,
+) -> Option<Unmerged>
+    requires all { V.states survivors.old.inner.value ≡ 2 ^ 64 - 1 }
+    requires tied { V.states survivors.old.inner.value ≡ metric.old.alive }
+    requires few { V.count survivors.old.inner.value + length words.now ≤ L + 1 }
+    requires path { L ≤ 2048 }
+    requires room { length to.old + L < 36864 }
+    ensures tied { V.states survivors.new.inner.value ≡ metric.new.alive }
+    ensures few { V.count survivors.new.inner.value ≤ L }
+    ensures amount { length to.new + V.count survivors.new.inner.value ≡ length to.old
+        + V.count survivors.old.inner.value + length words.now }
+    ensures spaced { V.count survivors.new.inner.value + (L + 1) * length (option_to_list result) ≤ V.count
+        survivors.old.inner.value + length words.now }
+    ensures settles { SettlesAll L (V.list survivors.old.inner.value) words.now metric.old
+        (V.count survivors.old.inner.value + length words.now) metric.new (V.list survivors.new.inner.value)
+        (V.count survivors.new.inner.value) steps to.old to.new (at_of result) }
+{
+    if survivors.waiting() as usize + words.len() <= L {
+        survivors.push_all(words);
+        return None;
+    }
+    if survivors.push_and_give(words, to) > 0 {
+        return None;
+    }
+    force_least(metric, survivors, to);
     Some(Unmerged { at: steps })
 }
 
@@ -194,20 +227,47 @@ impl<A: Acs, V: Survivors<L>, const L: usize> Decoder<A, V, L> {
         ensures ran { (a : Option (List Bool)) (c : List CostPair) (g : List Bool) → Stands L self.old a c g
             → Ran L self.new a c g (take result.0 pairs.now) to.old to.new (option_to_list (at_of result.1)) }
     {
+        let mut words = [0u64; SLICE];
+        self.run_part(pairs, &mut words, to)
+    }
+
+    /// The same as `run_slice`, with space for the decision words, at least one; no clause depends on what it holds.
+    pub(crate) fn run_part(
+        &mut self,
+        pairs: &[CostPair],
+        words: &mut [u64],
+        to: &mut WaitBuf,
+    ) -> (usize, Option<Unmerged>)
+        requires some { 0 < length pairs.now }
+        requires space { 0 < length words.old }
+        requires going { self.old.ended ≡ false }
+        requires steps { self.old.steps < 2 ^ 62 }
+        requires room { length to.old + L < 36864 }
+        ensures space { length words.new ≡ length words.old }
+        ensures some { 0 < result.0 }
+        ensures within { result.0 ≤ length pairs.now }
+        ensures going { self.new.ended ≡ false }
+        ensures steps { self.new.steps ≡ self.old.steps + result.0 }
+        ensures few { self.new.waiting ≤ L }
+        ensures amount { length to.new + self.new.waiting ≡ length to.old + self.old.waiting + result.0 }
+        ensures spaced { self.new.waiting + (L + 1) * length (option_to_list result.1) ≤ self.old.waiting + result.0 }
+        ensures ran { (a : Option (List Bool)) (c : List CostPair) (g : List Bool) → Stands L self.old a c g
+            → Ran L self.new a c g (take result.0 pairs.now) to.old to.new (option_to_list (at_of result.1)) }
+    {
         if self.metric.alive() != u64::MAX {
             return (1, self.step(pairs[0], to));
         }
         let before = self.survivors.waiting() as usize;
-        let count = pairs.len().min(L + 1 - before).min(SLICE);
-        let mut words = [0u64; SLICE];
-        advance::<A, V, L>(
+        let count = pairs.len().min(L + 1 - before).min(words.len());
+        self.metric.run::<A>(&pairs[..count], &mut words[..count]);
+        self.steps += count as u64;
+        let report = settle_all(
             &mut self.metric,
             &mut self.survivors,
-            &pairs[..count],
-            &mut words[..count],
+            &words[..count],
+            self.steps,
+            to,
         );
-        self.steps += count as u64;
-        let report = settle(&mut self.metric, &mut self.survivors, self.steps, to);
         (count, report)
     }
 

@@ -3,7 +3,8 @@ use Rattle.std.proofs.Common.{◌≡◌, ℕ, ◌<◌, ◌||◌, Bool, true, Lis
 use Rattle.std.proofs.lemmas.Bool.{agree_below_at}
 use Rattle.spec_words.specs.Bits.{is_set}
 use Rattle.code_paths.specs.States.{even_of, before}
-use Rattle.survivor_ring.specs.Survivors.{IsPushed, IsFollowed, AreAllPushed}
+use Rattle.std.specs.Prelude.{take}
+use Rattle.survivor_ring.specs.Survivors.{IsPushed, IsFollowed, AreAllPushed, IsAlike, GivesAway, all_pushed}
 use Rattle.survivor_ring.specs.Ring.{root, trace}
 use Rattle.survivor_ring.proofs.RowSteps.{before_below}
 use Rattle.survivor_ring.proofs.Walks.{trace_push, root_push, trace_append}
@@ -34,3 +35,19 @@ all_pushed_more old words mid word new h p = record {
 -- words after words
 pub traces_extended : (ws ds new : List ℕ) → new ≡ ws ++ ds → AreAllPushed (trace ws) ds (trace new)
 traces_extended ws ds new e = record { each = λ n l. ap (λ z. trace z n) e ∙ trace_append ws ds n }
+
+-- ---- the same lists under another name
+
+pub alike_as : (live : ℕ) (f g : ℕ → List Bool) (count k : ℕ) → ((n : ℕ) → n < 64 → g n ≡ f n) → IsAlike live f count k → IsAlike live g count k
+alike_as live f g count k h i = record {
+  within = i.within;
+  alike = λ m n x y t u. ap (take k) (h m x) ∙ i.alike m n x y t u ∙ sym (ap (take k) (h n y));
+  most = λ j w a. i.most j w (λ m n x y t u. sym (ap (take j) (h m x)) ∙ a m n x y t u ∙ ap (take j) (h n y));
+}
+
+pub gives_as : (live : ℕ) (f g : ℕ → List Bool) (k : ℕ) (old new : List Bool) → ((n : ℕ) → n < 64 → g n ≡ f n) → GivesAway live f k old new → GivesAway live g k old new
+gives_as live f g k old new h v n l t = v n l t ∙ ap (λ z. old ++ take k z) (sym (h n l))
+
+-- the bits after more words are those of all words
+pub all_traces : (ws ds : List ℕ) (n : ℕ) → all_pushed (trace ws) ds n ≡ trace (ws ++ ds) n
+all_traces ws ds n = sym (trace_append ws ds n)

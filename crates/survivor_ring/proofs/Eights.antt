@@ -1,5 +1,5 @@
 -- Tracebacks through decision words, eight at a time.
-use Rattle.std.proofs.Common.{◌≡◌, ℕ, zero, suc, ◌+◌, ◌-◌, ◌*◌, ◌/◌, ◌%◌, ◌^◌, ◌<◌, ◌≤◌, Bool, false, cond, List, [], ◌∷◌, ◌++◌, length, take, drop, get_or, set, refl, sym, ap, ap₂, ◌∙◌, arith, eqb, bit_and, bit_or, lit<, ext_get_or, get_or-take, length-take-le, take-append-drop, drop-drop, append_assoc, true, true≢false, ◌⊎◌, inl, inr}
+use Rattle.std.proofs.Common.{◌≡◌, ℕ, zero, suc, ◌+◌, ◌-◌, ◌*◌, ◌/◌, ◌%◌, ◌^◌, ◌<◌, ◌≤◌, Bool, false, cond, List, [], ◌∷◌, ◌++◌, length, take, drop, get_or, set, refl, sym, ap, ap₂, ◌∙◌, arith, eqb, lit<, ext_get_or, get_or-take, length-take-le, take-append-drop, drop-drop, append_assoc, true, true≢false, ◌⊎◌, inl, inr}
 use Rattle.std.proofs.Math.Nat.{pow-suc}
 use Rattle.std.proofs.Math.Seq.{take-append_seam}
 use Rattle.std.proofs.lemmas.Bool.{agree_below_at, cases_lt}
@@ -13,19 +13,14 @@ use Rattle.code_paths.specs.States.{before}
 use Rattle.code_paths.proofs.Words.{set_low}
 use Rattle.bit_pack.specs.Queue.{bits_of_bytes}
 use Rattle.survivor_ring.specs.Ring.{IsTraced, root, trace}
+use Rattle.survivor_ring.specs.declared.ring.TheConstants.{REVERSED}
 use Rattle.survivor_ring.proofs.Walks.{drop_one, root_below, trace_length, trace_append, trace_bit, trace_drop, root_append}
 use Rattle.survivor_ring.proofs.Traces.{spelled_at, bits_at, chunk_is}
 
 -- ---- a byte in reverse order
 
-abbrev pub halves : ℕ → ℕ
-halves x = bit_or (x / 16) (x * 16 % 256)
-
-abbrev pub pairs : ℕ → ℕ
-pairs x = bit_or (bit_and (halves x / 4) 51) (bit_and (halves x) 51 * 4 % 256)
-
 abbrev pub turned : ℕ → ℕ
-turned x = bit_or (bit_and (pairs x / 2) 85) (bit_and (pairs x) 85 * 2 % 256)
+turned x = get_or REVERSED x 0
 
 pub turned_at : (x k : ℕ) → x < 256 → k < 8 → is_set (turned x) (7 - k) ≡ is_set x k
 turned_at x zero l m = agree_below_at (λ y. is_set (turned y) 7) (λ y. is_set y 0) 256 x refl l

@@ -7,7 +7,6 @@ use Rattle.spec_words.specs.Bits.{bit, is_set, spelled}
 use Rattle.bit_pack.specs.Queue.{bits_of_bytes}
 use Rattle.survivor_ring.specs.Ring.{IsTraced, root, trace}
 use Rattle.survivor_ring.proofs.Walks.{drop_one, trace_append, trace_bit, trace_length}
-use Rattle.survivor_ring.proofs.Bytes.{parts_join}
 use Rattle.code_paths.specs.States.{before}
 use Rattle.std.proofs.Math.Seq.{take-append_seam, drop-append_seam}
 
@@ -112,20 +111,29 @@ part_more bits words place state k last now bytes e l f g h w t =
     subst (λ z. IsTraced bits z (last / 2 + 128 * (now / 32)) (set bytes ((place + i) / 8) (last / 2 + 128 * (now / 32)))) q
     (traced_more bits (place + i) (place + (length words - k)) last now bytes (omega (arith, l)) h g (bit_there bits words place state i now e (omega (arith, l)) (f ∙ ap (λ z. root (drop z words) state) p)) t w)
 
-pub both_traced : (older newer items : List ℕ) (state between byte last : ℕ) (old mid new : List ℕ) → older ++ newer ≡ items → between ≡ root newer state → length items ≤ 2056 → length new ≡ 257
-    → ((bits : List Bool) → take (length newer) (drop (length older) bits) ≡ trace newer state → IsTraced bits (length older + length newer) 0 old → IsTraced bits (length older) byte mid)
-    → ((bits : List Bool) → take (length older) (drop 0 bits) ≡ trace older between → IsTraced bits (0 + length older) byte mid → IsTraced bits 0 last new) → take (length items) (bits_of_bytes new) ≡ trace items state
-both_traced older newer items state between byte last old mid new e b f s p q =
-    let bits = trace items state in
-    let n : length bits ≡ length items = trace_length items state in
-    let m : length older + length newer ≡ length items = omega (arith, length-append older newer, ap length e) in
-    let both : bits ≡ trace older between ++ trace newer state = ap (λ z. trace z state) (sym e) ∙ trace_append older newer state ∙ ap (λ z. trace older z ++ trace newer state) (sym b) in
-    let first : take (length older) bits ≡ trace older between = ap₂ take (sym (trace_length older between)) both ∙ take-append_seam (trace older between) (trace newer state) in
-    let rest : drop (length older) bits ≡ trace newer state = ap₂ drop (sym (trace_length older between)) both ∙ drop-append_seam (trace older between) (trace newer state) in
-    let whole : take (length newer) (trace newer state) ≡ trace newer state = take_all (length newer) (trace newer state) (omega (arith, trace_length newer state)) in
+-- three parts: the words of a ring in two slices, and those after it
+pub three_traced : (older newer items more : List ℕ) (count state after between last byte end : ℕ) (old mid mid2 new : List ℕ) → older ++ newer ≡ items → count ≡ length items → after ≡ root more state → between ≡ root newer after → length items + length more ≤ 2056 → length new ≡ 257
+    → ((bits : List Bool) → take (length more) (drop count bits) ≡ trace more state → IsTraced bits (count + length more) 0 old → IsTraced bits count last mid)
+    → ((bits : List Bool) → take (length newer) (drop (length older) bits) ≡ trace newer after → IsTraced bits (length older + length newer) last mid → IsTraced bits (length older) byte mid2)
+    → ((bits : List Bool) → take (length older) (drop 0 bits) ≡ trace older between → IsTraced bits (0 + length older) byte mid2 → IsTraced bits 0 end new) → take (length (items ++ more)) (bits_of_bytes new) ≡ trace (items ++ more) state
+three_traced older newer items more count state after between last byte end old mid mid2 new e r a b f s o p q =
+    let bits = trace (items ++ more) state in
+    let n : length bits ≡ length (items ++ more) = trace_length (items ++ more) state in
+    let m : length older + length newer ≡ count = omega (arith, length-append older newer, ap length e, r) in
+    let k : length (items ++ more) ≡ length items + length more = length-append items more in
+    let split : bits ≡ trace items after ++ trace more state = trace_append items more state ∙ ap (λ z. trace items z ++ trace more state) (sym a) in
+    let both : trace items after ≡ trace older between ++ trace newer after = ap (λ z. trace z after) (sym e) ∙ trace_append older newer after ∙ ap (λ z. trace older z ++ trace newer after) (sym b) in
+    let three : bits ≡ trace older between ++ (trace newer after ++ trace more state) = split ∙ ap (λ z. z ++ trace more state) both ∙ append_assoc (trace older between) (trace newer after) (trace more state) in
+    let first : take (length older) bits ≡ trace older between = ap₂ take (sym (trace_length older between)) three ∙ take-append_seam (trace older between) (trace newer after ++ trace more state) in
+    let rest : drop (length older) bits ≡ trace newer after ++ trace more state = ap₂ drop (sym (trace_length older between)) three ∙ drop-append_seam (trace older between) (trace newer after ++ trace more state) in
+    let second : take (length newer) (drop (length older) bits) ≡ trace newer after = ap₂ take (sym (trace_length newer after)) rest ∙ take-append_seam (trace newer after) (trace more state) in
+    let tail : drop count bits ≡ trace more state = ap₂ drop (r ∙ sym (trace_length items after)) split ∙ drop-append_seam (trace items after) (trace more state) in
+    let whole : take (length more) (trace more state) ≡ trace more state = take_all (length more) (trace more state) (omega (arith, trace_length more state)) in
     let z : length older ≡ 0 + length older = omega arith in
-    let t = q bits first (subst (λ k. IsTraced bits k byte mid) z (p bits (ap (take (length newer)) rest ∙ whole) (none_traced bits (length older + length newer) 0 old (omega (arith, n, m))))) in
-    ap (λ k. take k (bits_of_bytes new)) (sym n) ∙ traced_all bits last new t (omega (arith, n, f, s))
+    let t = o bits (ap (take (length more)) tail ∙ whole) (none_traced bits (count + length more) 0 old (omega (arith, n, k, r))) in
+    let u = p bits second (subst (λ x. IsTraced bits x last mid) (sym m) t) in
+    let v = q bits first (subst (λ x. IsTraced bits x byte mid2) z u) in
+    ap (λ x. take x (bits_of_bytes new)) (sym n) ∙ traced_all bits end new v (omega (arith, n, k, f, s))
 
 -- ---- appended bits
 

@@ -19,6 +19,10 @@ pub record IsFollowed (old word live : ℕ) : Type 0 where
 pub record AreAllPushed (old : ℕ → List Bool) (words : List ℕ) (new : ℕ → List Bool) : Type 0 where
   pub each : (n : ℕ) → n < 64 → new n ≡ old (root words n) ++ trace words n
 
+-- the same as a function of the state
+abbrev pub all_pushed : (ℕ → List Bool) → List ℕ → ℕ → List Bool
+all_pushed old words n = old (root words n) ++ trace words n
+
 -- the first k bits of all alive states are the same
 abbrev pub AreAlike : ℕ → (ℕ → List Bool) → ℕ → Type 0
 AreAlike live waits k = (m n : ℕ) → m < 64 → n < 64 → IsTrue (is_set live m) → IsTrue (is_set live n) → take k (waits m)

@@ -60,13 +60,34 @@ fn lowered(set: u64, index: usize, answer: usize) -> usize
     if is_uniform(set) { answer } else { index }
 }
 
-fn word_at(words: &HeapCircularBuffer<u64>, index: usize) -> u64
+/// The number of words of a ring and after it.
+fn number_of(words: &HeapCircularBuffer<u64>, more: &[u64]) -> usize
+    requires { length words.now.items + length more.now ≤ 2056 }
+    ensures { result ≡ length (words.now.items ++ more.now) }
+{
+    words.len() + more.len()
+}
+
+fn ring_word(words: &HeapCircularBuffer<u64>, index: usize) -> u64
     requires { index < length words.now.items }
     ensures { result ≡ slice_index words.now.items index }
 {
     match words.get(index) {
         Some(word) => *word,
         None => unreachable!(),
+    }
+}
+
+/// One of the words of a ring and after it.
+fn word_at(words: &HeapCircularBuffer<u64>, more: &[u64], index: usize) -> u64
+    requires { index < length (words.now.items ++ more.now) }
+    ensures { result ≡ slice_index (words.now.items ++ more.now) index }
+{
+    let count = words.len();
+    if index < count {
+        ring_word(words, index)
+    } else {
+        more[index - count]
     }
 }
 
@@ -111,22 +132,39 @@ fn trace_steps(
 
 /// A step back that keeps the bits passed: the predecessor is the lowest six bits, and above them are the newest bits
 /// of the states passed, the last one lowest.
-fn walk_back(word: u64, walk: u64) -> u64
+// With one less for a bit that is not set a step is `bt` and `adc`, two cycles, where one more for a bit that is set
+// takes three. In 32 bits, as LLVM puts two tracebacks of 64 into one vector, which is slower.
+fn walk_back(word: u64, walk: u32) -> u32
     requires { walk < 8192 }
     ensures state { result % 64 ≡ before word (walk % 64) }
     ensures rest { result / 2 ≡ walk }
 {
     let odd = (word >> (walk % 64)) & 1 == 1;
-    2 * walk + if odd { 1 } else { 0 }
+    2 * walk + 1 - if odd { 0 } else { 1 }
 }
+
+/// The bits of each byte in reverse order.
+static REVERSED: [u8; 256] = [
+    0, 128, 64, 192, 32, 160, 96, 224, 16, 144, 80, 208, 48, 176, 112, 240, 8, 136, 72, 200, 40,
+    168, 104, 232, 24, 152, 88, 216, 56, 184, 120, 248, 4, 132, 68, 196, 36, 164, 100, 228, 20,
+    148, 84, 212, 52, 180, 116, 244, 12, 140, 76, 204, 44, 172, 108, 236, 28, 156, 92, 220, 60,
+    188, 124, 252, 2, 130, 66, 194, 34, 162, 98, 226, 18, 146, 82, 210, 50, 178, 114, 242, 10, 138,
+    74, 202, 42, 170, 106, 234, 26, 154, 90, 218, 58, 186, 122, 250, 6, 134, 70, 198, 38, 166, 102,
+    230, 22, 150, 86, 214, 54, 182, 118, 246, 14, 142, 78, 206, 46, 174, 110, 238, 30, 158, 94,
+    222, 62, 190, 126, 254, 1, 129, 65, 193, 33, 161, 97, 225, 17, 145, 81, 209, 49, 177, 113, 241,
+    9, 137, 73, 201, 41, 169, 105, 233, 25, 153, 89, 217, 57, 185, 121, 249, 5, 133, 69, 197, 37,
+    165, 101, 229, 21, 149, 85, 213, 53, 181, 117, 245, 13, 141, 77, 205, 45, 173, 109, 237, 29,
+    157, 93, 221, 61, 189, 125, 253, 3, 131, 67, 195, 35, 163, 99, 227, 19, 147, 83, 211, 51, 179,
+    115, 243, 11, 139, 75, 203, 43, 171, 107, 235, 27, 155, 91, 219, 59, 187, 123, 251, 7, 135, 71,
+    199, 39, 167, 103, 231, 23, 151, 87, 215, 55, 183, 119, 247, 15, 143, 79, 207, 47, 175, 111,
+    239, 31, 159, 95, 223, 63, 191, 127, 255,
+];
 
 /// The bits of a byte in reverse order.
 fn reversed(byte: u8) -> u8
     ensures { (k : ℕ) → k < 8 → is_set result (7 - k) ≡ is_set byte k }
 {
-    let halves = byte >> 4 | byte << 4;
-    let pairs = (halves >> 2) & 0x33 | (halves & 0x33) << 2;
-    (pairs >> 1) & 0x55 | (pairs & 0x55) << 1
+    REVERSED[byte as usize]
 }
 
 /// The state before eight words, and their bits as a byte.
@@ -137,11 +175,11 @@ fn trace_byte(words: &[u64], state: u64) -> (u64, u8)
     ensures small { result.0 < 64 }
     ensures bits { spelled 8 result.1 ≡ trace words.now state }
 {
-    let mut walk = state;
+    let mut walk = state as u32;
     for k in 0..8usize {
         walk = walk_back(words[7 - k], walk);
     }
-    (walk % 64, reversed((walk / 64 % 256) as u8))
+    ((walk % 64) as u64, reversed((walk / 64 % 256) as u8))
 }
 
 /// Writes the bits of the newer words, and at the same time those of the older words for state 0 after them: two
@@ -257,14 +295,17 @@ fn trace_part(
     trace_steps(&words[..low], place, now, bytes[start] as u64, bytes)
 }
 
-/// Writes the bits of the words of a ring, eight in a byte.
-fn trace_back(words: &HeapCircularBuffer<u64>, state: u64, bytes: &mut [u8; 257])
+/// Writes the bits of the words of a ring and after it, eight in a byte.
+fn trace_back(words: &HeapCircularBuffer<u64>, more: &[u64], state: u64, bytes: &mut [u8; 257])
     requires state { state < 64 }
-    requires room { length words.now.items ≤ 2056 }
-    ensures bits { take (length words.now.items) (bits_of_bytes bytes.new) ≡ trace words.now.items state }
+    requires room { length words.now.items + length more.now ≤ 2056 }
+    ensures bits { take (length (words.now.items ++ more.now)) (bits_of_bytes bytes.new)
+        ≡ trace (words.now.items ++ more.now) state }
 {
     let (older, newer) = words.as_slices();
-    let (between, byte) = trace_part(newer, older.len(), state, 0, bytes);
+    let count = words.len();
+    let (after, last) = trace_part(more, count, state, 0, bytes);
+    let (between, byte) = trace_part(newer, older.len(), after, last, bytes);
     trace_part(older, 0, between, byte, bytes);
 }
 
@@ -275,13 +316,14 @@ fn is_single(set: u64) -> bool
     set != 0 && set == 1 << set.trailing_zeros()
 }
 
-/// The number of bits shared by the states of a set. The traceback starts at the newest word and ends where all states
-/// come from the same one: all older bits are shared.
-fn shared_words(words: &HeapCircularBuffer<u64>, states: u64) -> usize
-    requires { states ≢ 0 }
-    ensures { IsAlike states (trace words.now.items) (length words.now.items) result }
+/// The number of bits shared by the states of a set, by the words of a ring and after it. The traceback starts at the
+/// newest word and ends where all states come from the same one: all older bits are shared.
+fn shared_words(words: &HeapCircularBuffer<u64>, more: &[u64], states: u64) -> usize
+    requires states { states ≢ 0 }
+    requires few { length words.now.items + length more.now ≤ 2056 }
+    ensures { IsAlike states (trace (words.now.items ++ more.now)) (length (words.now.items ++ more.now)) result }
 {
-    let count = words.len();
+    let count = number_of(words, more);
     let mut set = states;
     let mut answer = count;
     for k in 0..count {
@@ -290,7 +332,7 @@ fn shared_words(words: &HeapCircularBuffer<u64>, states: u64) -> usize
         }
         let index = count - 1 - k;
         answer = lowered(set, index, answer);
-        set = ancestors(set, word_at(words, index));
+        set = ancestors(set, word_at(words, more, index));
     }
     answer
 }
@@ -317,6 +359,23 @@ fn drop_words(words: &mut HeapCircularBuffer<u64>, number: usize)
     ensures capacity { words.new.capacity ≡ words.old.capacity }
 {
     words.truncate_front(words.len() - number);
+}
+
+/// Puts words after those of a ring, and removes the first ones of all.
+fn replace_words(words: &mut HeapCircularBuffer<u64>, more: &[u64], number: usize)
+    requires within { number ≤ length (words.old.items ++ more.now) }
+    requires room { length words.old.items + length more.now ≤ words.old.capacity }
+    ensures items { words.new.items ≡ drop number (words.old.items ++ more.now) }
+    ensures capacity { words.new.capacity ≡ words.old.capacity }
+{
+    let count = words.len();
+    if number < count {
+        drop_words(words, number);
+        push_words(words, more);
+    } else {
+        drop_words(words, count);
+        push_words(words, &more[number - count..]);
+    }
 }
 
 /// With one more decision word, the bits of a state are those of its predecessor, then the newest bit of the state.
@@ -378,19 +437,29 @@ impl<const L: usize> Survivors<L> for RingSurvivors<L> {
     }
 
     fn shared(&self) -> u32 {
-        shared_words(&self.words, self.states) as u32
+        shared_words(&self.words, &[], self.states) as u32
     }
 
     fn give(&mut self, number: u32, to: &mut WaitBuf) {
         let mut bytes = [0; 257];
-        trace_back(&self.words, lowest(self.states) as u64, &mut bytes);
+        trace_back(&self.words, &[], lowest(self.states) as u64, &mut bytes);
         append_traced(&bytes, number as usize, to);
         drop_words(&mut self.words, number as usize);
     }
 
+    fn push_and_give(&mut self, decisions: &[u64], to: &mut WaitBuf) -> u32 {
+        let number = shared_words(&self.words, decisions, self.states);
+        let mut bytes = [0; 257];
+        let state = lowest(self.states) as u64;
+        trace_back(&self.words, decisions, state, &mut bytes);
+        append_traced(&bytes, number, to);
+        replace_words(&mut self.words, decisions, number);
+        number as u32
+    }
+
     fn force(&mut self, end: u8, to: &mut WaitBuf) {
         let mut bytes = [0; 257];
-        trace_back(&self.words, end as u64, &mut bytes);
+        trace_back(&self.words, &[], end as u64, &mut bytes);
         append_traced(&bytes, self.words.len(), to);
         self.words.clear();
         self.states = 1 << end;

@@ -3,6 +3,7 @@ ghost use Rattle.std.specs.Prelude.{◌≡◌, ◌≢◌, ◌+◌, ◌-◌, ◌<
 ghost use Rattle.std.specs.Prelude.{IsTrue};
 ghost use Rattle.spec_words.specs.Bits.{is_set};
 ghost use Rattle.survivor_ring.specs.Survivors.{IsPushed, IsFollowed, AreAllPushed, AreAlike, IsAlike, GivesAway};
+ghost use Rattle.survivor_ring.specs.Survivors.{all_pushed};
 
 use bit_pack::WaitBuf;
 use std::alloc::{AllocError, Global};
@@ -71,6 +72,27 @@ pub trait Survivors<const L: usize>: Drop {
             ≡ drop number (list self.old n) }
         ensures amount { length to.new ≡ length to.old + number }
         ensures given { GivesAway (states self.old) (list self.old) number to.old to.new };
+
+    /// Takes a step on each of the decision words in order, with all states alive before and after each, and moves the
+    /// bits that all states then share to the end of `to`, where there must be room for all pending bits. Returns their
+    /// number. The result is that of `push_all`, `shared` and `give`; at most `L + 1` bits may be pending in between.
+    fn push_and_give(&mut self, decisions: &[u64], to: &mut WaitBuf) -> u32
+        requires all { states self.old ≡ 2 ^ 64 - 1 }
+        requires few { count self.old + length decisions.now ≤ L + 1 }
+        requires room { length to.old + count self.old + length decisions.now ≤ 36864 }
+        ensures states { states self.new ≡ states self.old }
+        ensures count { count self.new + result ≡ count self.old + length decisions.now }
+        ensures shared { IsAlike (states self.old) (all_pushed (list self.old) decisions.now) (count self.old
+            + length decisions.now) result }
+        ensures list { (n : ℕ) → n < 64 → list self.new n ≡ drop result (all_pushed (list self.old) decisions.now n) }
+        ensures amount { length to.new ≡ length to.old + result }
+        ensures given { GivesAway (states self.old) (all_pushed (list self.old) decisions.now) result to.old to.new }
+    {
+        self.push_all(decisions);
+        let number = self.shared();
+        self.give(number, to);
+        number
+    }
 
     /// Moves all bits of the alive state `end` to the end of `to`, where there must be room for them. Only this state
     /// is then alive, and no bit is pending.

@@ -12,13 +12,13 @@ loop-taken-init g c = (omega arith, runs_none 2048 _ _ _ c.requires.going (ap at
 pub loop-taken-preserved : goal.loop-taken-preserved
 loop-taken-preserved g c =
     let k = c.loop-taken.taken in
-    let n = c.run_slice-count.result.0 in
+    let n = c.run_part-count.result.0 in
     let xs = c.args.pairs.now in
     let rest = take (length xs - k) (drop k xs) in
     let e : rest ≡ drop k xs = take_all (length xs - k) (drop k xs) (omega (arith, length-drop k xs)) in
-    let l : length (take n rest) ≡ n = length-take-le n rest c.run_slice-count.ensures.within in (
-      omega (arith, ap length e, length-drop k xs, c.run_slice-count.ensures.within, c.loop-taken.invariant.0),
-      runs_more 2048 _ _ _ _ _ _ c.loop-taken.invariant.1 (take n rest) n _ _ c.run_slice-count.result.1 _ _ l c.run_slice-count.ensures.going c.run_slice-count.ensures.steps c.run_slice-count.ensures.amount c.run_slice-count.ensures.spaced c.run_slice-count.ensures.few c.run_slice-count.ensures.ran c.note.ensures
+    let l : length (take n rest) ≡ n = length-take-le n rest c.run_part-count.ensures.within in (
+      omega (arith, ap length e, length-drop k xs, c.run_part-count.ensures.within, c.loop-taken.invariant.0),
+      runs_more 2048 _ _ _ _ _ _ c.loop-taken.invariant.1 (take n rest) n _ _ c.run_part-count.result.1 _ _ l c.run_part-count.ensures.going c.run_part-count.ensures.steps c.run_part-count.ensures.amount c.run_part-count.ensures.spaced c.run_part-count.ensures.few c.run_part-count.ensures.ran c.note.ensures
           (take-add k n xs ∙ ap (λ z. take k xs ++ take n z) (sym e)),
     )
 

@@ -10,5 +10,6 @@ returns-then-shared-gt0-clause-settles g c = settled_given g.row.L _ _ _ _ c.arg
 
 pub returns-clause-settles : goal.returns-clause-settles
 returns-clause-settles g c =
-    settled_forced g.row.L _ _ _ _ c.args.steps c.best-end.result _ _ _ c.shared-shared.result _ _ c.requires.tied (omega (arith, c.if-waiting.false, c.waiting.ensures.number)) c.if-shared-gt0.false c.shared-shared.ensures.shared c.best-end.ensures c.force.ensures.given
-    c.only.ensures.lives c.only.ensures.cost c.force.ensures.list c.force.ensures.count
+    let b = c.force_least.ensures.forced in
+    settled_forced g.row.L _ _ _ _ c.args.steps b.state _ _ _ c.shared-shared.result _ _ c.requires.tied (omega (arith, c.if-waiting.false, c.waiting.ensures.number)) c.if-shared-gt0.false c.shared-shared.ensures.shared b.best b.given
+    b.lives b.cost b.none c.force_least.ensures.count
