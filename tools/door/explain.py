@@ -173,7 +173,7 @@ def of_limit(form, text):
     number = (values_of("limit {limit}", text) or {}).get("limit")
     if not number:
         return "there are more packets or symbols than the limit"
-    if form.command in ("disperse", "outer", "inner") or form.command == "modulate" and number == 100_000_000:
+    if form.of("out") or form.command == "modulate" and number == 100_000_000:
         return f"an input has more than {number:,} packets ({number * PACKET / 1e9:.1f} GB), the most for one run"
     what = {"modulate": "the transmission has", "trial": "the trial has"}.get(form.command, "the cells have")
     has = f"{what} more than {number:,} symbols{air_of(form.settings, number)}, which is max_symbols in {form.settings}"

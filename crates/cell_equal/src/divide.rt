@@ -8,6 +8,12 @@ ghost use Rattle.cell_equal.specs.State.{IsSmall};
 use crate::{Equalised, Gain, estimate};
 use qam_map::Cell;
 
+// A cell whose gain has no power.
+pub(crate) const NOTHING: Equalised = Equalised {
+    cell: Cell { re: 0, im: 0 },
+    weight: 0,
+};
+
 // The product of a value of a cell and a part of a gain.
 pub(crate) fn product(value: i16, part: i64) -> i64
     requires { nat_abs part ≤ 393216 }
@@ -27,7 +33,7 @@ fn multiple(value: i16, divisor: i64) -> i64
 }
 
 // A value times 21845 and the distance between the pilots.
-fn scaled(span: u8, value: i64) -> i64
+pub(crate) fn scaled(span: u8, value: i64) -> i64
     requires span { span ≤ 12 }
     requires value { nat_abs value ≤ 2 ^ 35 }
     ensures is { result ≡ pos (21845 * span) *ℤ value }
@@ -36,7 +42,7 @@ fn scaled(span: u8, value: i64) -> i64
     21845 * i64::from(span) * value
 }
 
-fn power(gain: Gain) -> u64
+pub(crate) fn power(gain: Gain) -> u64
     requires { IsSmall gain }
     ensures is { result ≡ power gain }
     ensures small { result ≤ 2 ^ 39 }
@@ -56,7 +62,7 @@ fn nearest(x: i64, n: i64) -> i64
 }
 
 // The same, limited to the range of a cell's value.
-fn value_near(x: i64, n: u64) -> i16
+pub(crate) fn value_near(x: i64, n: u64) -> i16
     requires x { nat_abs x ≤ 2 ^ 53 }
     requires some { 0 < n }
     requires most { n ≤ 2 ^ 39 }
@@ -112,7 +118,7 @@ fn quotient(value: i64, span: u8, n: u64, inverse: f64) -> i16
 }
 
 // The part of a cell along the gain (u, v), times the gain's amplitude.
-fn along(re: i16, im: i16, u: i64, v: i64) -> i64
+pub(crate) fn along(re: i16, im: i16, u: i64, v: i64) -> i64
     requires u { nat_abs u ≤ 393216 }
     requires v { nat_abs v ≤ 393216 }
     ensures is { result ≡ re *ℤ u +ℤ im *ℤ v }
@@ -122,7 +128,7 @@ fn along(re: i16, im: i16, u: i64, v: i64) -> i64
 }
 
 // The part across it.
-fn across(re: i16, im: i16, u: i64, v: i64) -> i64
+pub(crate) fn across(re: i16, im: i16, u: i64, v: i64) -> i64
     requires u { nat_abs u ≤ 393216 }
     requires v { nat_abs v ≤ 393216 }
     ensures is { result ≡ im *ℤ u -ℤ re *ℤ v }
@@ -228,10 +234,7 @@ pub(crate) fn corrected(gain: Gain, cell: Cell, weight: u8) -> Equalised
 {
     let n = power(gain);
     if n == 0 {
-        return Equalised {
-            cell: Cell { re: 0, im: 0 },
-            weight: 0,
-        };
+        return NOTHING;
     }
     let restored = divided(gain, cell, n);
     Equalised {
@@ -257,62 +260,12 @@ pub(crate) fn corrected_pilot(opposite: bool, gain: Gain, weight: u8) -> Equalis
 {
     let n = power(gain);
     if n == 0 {
-        return Equalised {
-            cell: Cell { re: 0, im: 0 },
-            weight: 0,
-        };
+        return NOTHING;
     }
     let re = sent_pilot(opposite);
     let after = weight_after(weight, gain.span, n);
     Equalised {
         cell: Cell { re, im: 0 },
         weight: after,
-    }
-}
-
-// The cell divided by a gain of this power, with divisions.
-fn plainly_divided(gain: Gain, cell: Cell, n: u64) -> Cell
-    requires small { IsSmall gain }
-    requires n { n ≡ power gain }
-    requires some { 0 < n }
-    requires most { n ≤ 2 ^ 39 }
-    ensures { result ≡ divided gain cell }
-{
-    let re = along(cell.re, cell.im, gain.re, gain.im);
-    let im = across(cell.re, cell.im, gain.re, gain.im);
-    Cell {
-        re: value_near(scaled(gain.span, re), n),
-        im: value_near(scaled(gain.span, im), n),
-    }
-}
-
-// The weight after correction, with a division.
-fn plain_weight(old: u8, span: u8, n: u64) -> u8
-    requires some { 1 ≤ span }
-    requires span { span ≤ 12 }
-    requires n { n ≤ 2 ^ 39 }
-    ensures { result ≡ (if old == 0 then 0 else min 15 (16 * n / (21845 * span) ^ 2)) }
-{
-    let one = 21845 * u64::from(span);
-    let all = 16 * n / (one * one);
-    if old == 0 { 0 } else { all.min(15) as u8 }
-}
-
-// The cell divided by the gain, and its weight, with divisions.
-pub(crate) fn plainly_corrected(gain: Gain, cell: Cell, weight: u8) -> Equalised
-    requires { IsSmall gain }
-    ensures { result ≡ corrected gain cell weight }
-{
-    let n = power(gain);
-    if n == 0 {
-        return Equalised {
-            cell: Cell { re: 0, im: 0 },
-            weight: 0,
-        };
-    }
-    let restored = plainly_divided(gain, cell, n);
-    Equalised {
-        cell: restored,
-        weight: plain_weight(weight, gain.span, n),
     }
 }

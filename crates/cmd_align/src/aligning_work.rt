@@ -11,6 +11,7 @@ use crate::announcement::announced_line;
 use crate::copying::Copying;
 use cmd_base::{CellsRefusal, Refusal};
 use cmd_cells::{RunError, SymbolWork, write_some};
+use cmd_convert::line_of_counts;
 use frame_build::header;
 use mode_set::Settings;
 use station_core::{OutPort, Station};
@@ -103,7 +104,7 @@ impl<'a, S: Station<'a>, T: PlaceSearch> SymbolWork<'a, S> for AligningWork<T> {
     fn finish(&mut self, station: &mut S) -> Result<(), RunError> {
         match &self.copying {
             Some(copying) => {
-                let line = copying.line();
+                let line = line_of_counts(copying.symbols, copying.tail);
                 write_some(OutPort::Report, line.as_str().as_bytes(), station)
             }
             None => Err(RunError::Work(Refusal::Cells(CellsRefusal::NoPlace))),

@@ -5,13 +5,11 @@ ghost use Rattle.reception.specs.Cells.{symbol_length, tail};
 ghost use Rattle.cmd_cells.specs.Outputs.{IsWriting};
 ghost use Rattle.cmd_cells.specs.Stops.{HasCause};
 ghost use Rattle.cmd_cells.specs.Work.{AreOpen, Does, WritesOnly, Written};
-ghost use Rattle.cmd_convert.specs.Conversion.{counts_line};
 ghost use Rattle.cmd_convert.specs.Working.{writes_at};
 ghost use Rattle.tune_in.specs.declared.frame.Found.{Found as AnyFound};
 ghost use Rattle.cmd_align.specs.Working.{GivesAt, IsCopying};
 
 use cmd_cells::{RunError, write_some};
-use rx_report::{Line, push_count};
 use station_core::{OutPort, Station};
 
 /// The counts of the symbols after a place.
@@ -60,16 +58,5 @@ impl Copying {
         }
         self.symbols += 1;
         write_some(OutPort::Cells, piece, station)
-    }
-
-    /// The closing line.
-    pub(crate) fn line(&self) -> Line
-        ensures { result.bytes ≡ counts_line self.now.symbols self.now.tail }
-    {
-        let mut line = Line::new();
-        push_count(&mut line, "symbols ", self.symbols);
-        push_count(&mut line, " tail ", self.tail);
-        line.push_str("\n");
-        line
     }
 }

@@ -10,6 +10,7 @@
 #![tactic(auto)]
 
 mod converter;
+mod counts;
 mod equalise_command;
 mod equaliser;
 mod old_cells;
@@ -19,6 +20,7 @@ mod upgrader;
 mod work;
 
 pub use converter::Converter;
+pub use counts::line_of_counts;
 pub use equalise_command::equalise;
 pub use run::run_conversion;
 pub use upgrade_command::upgrade;

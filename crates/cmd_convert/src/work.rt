@@ -1,10 +1,7 @@
 // The work of a conversion on the symbols of the old file.
-ghost use Rattle.std.specs.Prelude.{◌≡◌};
-ghost use Rattle.cmd_convert.specs.Conversion.{counts_line};
-
 use crate::converter::Converter;
+use crate::counts::line_of_counts;
 use cmd_cells::{RunError, SymbolWork, write_some};
-use rx_report::{Line, push_count};
 use station_core::{OutPort, Station};
 
 /// A converter, with the counts of the old cells.
@@ -16,17 +13,6 @@ pub(crate) struct ConversionWork<C> {
     pub symbols: u64,
     /// The number of bytes taken after them.
     pub tail: u64,
-}
-
-// The closing line.
-fn line_of(symbols: u64, tail: u64) -> Line
-    ensures { result.bytes ≡ counts_line symbols tail }
-{
-    let mut line = Line::new();
-    push_count(&mut line, "symbols ", symbols);
-    push_count(&mut line, " tail ", tail);
-    line.push_str("\n");
-    line
 }
 
 impl<'a, S: Station<'a>, C: Converter> SymbolWork<'a, S> for ConversionWork<C> {
@@ -64,7 +50,7 @@ impl<'a, S: Station<'a>, C: Converter> SymbolWork<'a, S> for ConversionWork<C> {
     }
 
     fn finish(&mut self, station: &mut S) -> Result<(), RunError> {
-        let line = line_of(self.symbols, self.tail);
+        let line = line_of_counts(self.symbols, self.tail);
         write_some(OutPort::Report, line.as_str().as_bytes(), station)
     }
 

@@ -1,6 +1,6 @@
 -- Writes to the outputs of a reception.
-use Rattle.std.specs.Prelude.{◌≡◌, ◌⊎◌, ℕ, Bool, true, false, if◌then◌else◌, List, [], ◌++◌, take, flat_map, Result, Ok}
-use Rattle.std.specs.Prelude.{Err}
+use Rattle.std.specs.Prelude.{◌≡◌, ◌≤◌, ◌⊎◌, ℕ, Bool, true, false, if◌then◌else◌, List, [], ◌++◌, take, flat_map}
+use Rattle.std.specs.Prelude.{Result, Ok, Err}
 use Rattle.station_core.specs.Meaning.{Meaning}
 use Rattle.station_core.specs.declared.ports.OutPort.TheVariants as outs
 use Rattle.rx_report.specs.Text.{event_line}
@@ -8,6 +8,8 @@ use Rattle.rx_report.specs.declared.counts.Event.{Event}
 use Rattle.reception.specs.Feeds.{Output}
 use Rattle.cmd_cells.specs.declared.run_error.RunError.{RunError}
 use Rattle.cmd_cells.specs.declared.run_error.RunError.TheVariants.{WriteFault}
+use Rattle.cmd_cells.specs.Outputs.{IsWriting}
+use Rattle.cmd_cells.specs.Stops.{HasCause}
 use Rattle.cmd_cells.specs.Writing.{WritesAt}
 
 -- bytes were written at Lp, if there are two streams, or a prefix of them
@@ -52,6 +54,13 @@ WritesOnly old new = new ≡ record old {
 pub record IsPrinting (m : Meaning) : Type 0 where
   pub created : m.report.created ≡ true
   pub opened : m.report.closed ≡ false
+
+-- A call that writes to Report alone: an error is a write fault, which was counted, and nothing else has changed.
+pub record OnlyPrints (old new : Meaning) (result : Result (Unit {0}) RunError) : Type 0 where
+  pub kind : IsWriting result
+  pub cause : HasCause old new result
+  pub later_report : old.report_faults ≤ new.report_faults
+  pub others : ReportOnly old new
 
 -- the outputs are open: Hp, Lp with two streams, and Report
 pub record AreOpen (two : Bool) (m : Meaning) : Type 0 where

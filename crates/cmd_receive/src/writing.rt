@@ -4,8 +4,8 @@ ghost use Rattle.std.specs.List.{concat};
 ghost use Rattle.rx_report.specs.Text.{closing_lines};
 ghost use Rattle.cmd_cells.specs.Stops.{HasCause};
 ghost use Rattle.cmd_cells.specs.Outputs.{IsWriting};
-ghost use Rattle.cmd_receive.specs.Writing.{AreOpen, Appends, IsPrinting, Pushes, ReportOnly, WritesLp, WritesOnly};
-ghost use Rattle.cmd_receive.specs.Writing.{WritesOut, event_text};
+ghost use Rattle.cmd_receive.specs.Writing.{AreOpen, Appends, IsPrinting, OnlyPrints, Pushes, ReportOnly, WritesLp};
+ghost use Rattle.cmd_receive.specs.Writing.{WritesOnly, WritesOut, event_text};
 ghost use Rattle.cmd_receive.specs.Closing.{few_lines};
 
 use arrayvec::ArrayString;
@@ -39,10 +39,7 @@ fn push_line<'a, S: Station<'a>>(
     station: &mut S,
 ) -> Result<(), RunError>
     requires printing { IsPrinting (S.meaning station.old) }
-    ensures kind { IsWriting result }
-    ensures cause { HasCause (S.meaning station.old) (S.meaning station.new) result }
-    ensures later_report { (S.meaning station.old).report_faults ≤ (S.meaning station.new).report_faults }
-    ensures others { ReportOnly (S.meaning station.old) (S.meaning station.new) }
+    ensures prints { OnlyPrints (S.meaning station.old) (S.meaning station.new) result }
     ensures pushes { IsTrue (S.meaning station.old).tells → Pushes line.now.bytes text.old.bytes text.new.bytes
         (S.meaning station.old).report.written (S.meaning station.new).report.written result }
 {
@@ -59,10 +56,7 @@ fn push_line<'a, S: Station<'a>>(
 // Writes the lines of the events of a symbol, in one write.
 fn write_events<'a, S: Station<'a>>(events: &[Event], station: &mut S) -> Result<(), RunError>
     requires printing { IsPrinting (S.meaning station.old) }
-    ensures kind { IsWriting result }
-    ensures cause { HasCause (S.meaning station.old) (S.meaning station.new) result }
-    ensures later_report { (S.meaning station.old).report_faults ≤ (S.meaning station.new).report_faults }
-    ensures others { ReportOnly (S.meaning station.old) (S.meaning station.new) }
+    ensures prints { OnlyPrints (S.meaning station.old) (S.meaning station.new) result }
     ensures written { IsTrue (S.meaning station.old).tells → Appends (event_text events.now)
         (S.meaning station.old).report.written (S.meaning station.new).report.written result }
 {

@@ -2,28 +2,16 @@
 ghost use Rattle.std.specs.Prelude.{◌≡◌, ◌+◌, ◌-◌, ◌*◌, ◌<◌, ◌≤◌, ◌^◌, ◌++◌, ◌∷◌, [], ℕ, List, true, false, length};
 ghost use Rattle.std.specs.Prelude.{vec_capacity};
 ghost use Rattle.tracking.specs.Tracking.{Symbol};
-ghost use Rattle.cmd_convert.specs.Conversion.{counts_line};
 ghost use Rattle.tracker.specs.Tracks.{Tracks};
 ghost use Rattle.cmd_track.specs.Working.{next_given, symbol_in};
 
 use crate::rest::write_rest;
 use cmd_cells::{RunError, SymbolWork, write_some};
+use cmd_convert::line_of_counts;
 use frame_build::{SymbolIn, header};
 use mode_set::Carriers;
-use rx_report::{Line, push_count};
 use station_core::{OutPort, Station};
 use tracker::Tracker;
-
-// The closing line.
-fn closing_line(symbols: u64, tail: u64) -> Line
-    ensures { result.bytes ≡ counts_line symbols tail }
-{
-    let mut line = Line::new();
-    push_count(&mut line, "symbols ", symbols);
-    push_count(&mut line, " tail ", tail);
-    line.push_str("\n");
-    line
-}
 
 // Takes the next whole symbol. `room` then has the corrected symbol seven before it, if there is one.
 fn take_symbol<M: Carriers>(
@@ -107,7 +95,7 @@ impl<'a, S: Station<'a>, M: Carriers> SymbolWork<'a, S> for TrackingWork<M> {
     fn finish(&mut self, station: &mut S) -> Result<(), RunError> {
         self.tracker.end();
         write_rest(&mut self.tracker, &mut self.room, station)?;
-        let line = closing_line(self.symbols, self.tail);
+        let line = line_of_counts(self.symbols, self.tail);
         write_some(OutPort::Report, line.as_str().as_bytes(), station)
     }
 

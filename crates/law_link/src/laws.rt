@@ -23,8 +23,9 @@ fn counted_at(mode: Mode, l: u8)
     payload_carriers_are_numbered(mode, l);
 }
 
-// If it holds for four symbols, it holds for all: the kinds of carriers repeat.
-fn counted(mode: Mode)
+/// The payload carriers of each symbol are numbered and counted. If it holds for four symbols, it holds for all: the
+/// kinds of carriers repeat.
+pub fn counted(mode: Mode)
     ensures { (l : ℕ) → AreCounted mode l }
 {
     counted_at(mode, 0);

@@ -1,6 +1,4 @@
 // The laws of a measurement, as contracts of functions with empty bodies.
-ghost use Rattle.std.specs.Prelude.{ℕ};
-ghost use Rattle.law_link.specs.Counted.{AreCounted};
 ghost use Rattle.law_measurement.specs.Totals.{LinesAddUp, ClosingIsReceived};
 ghost use Rattle.law_measurement.specs.Remade.{RemadeAreSent, ErrorIsFromSent};
 ghost use Rattle.law_measurement.specs.Own.{NearPointsAreDecided, SymbolsAreCompared, NoiseIsMeasured, OwnIsMeasured};
@@ -11,32 +9,14 @@ use code_paths::uniqueness::existence;
 use code_paths::{
     ended_once, given_begins_ended, given_grows, given_once, keeps_sent, reports_once,
 };
-use law_link::laws::own_cells;
+use law_link::laws::{counted, own_cells};
 use mode_set::{Mode, symbols_have_whole_periods};
 use outer_chain::laws::bits;
-use pilots::{payload_carriers_are_numbered, symbols_have_as_many_payload_carriers};
 use puncture::{lists_are_paths, sent_bits_have_steps, steps_are_numbered, steps_send_in_order};
 use reception::laws::costs;
 use soft_metric::laws::{near_points_favour_their_bits, weights_tell_apart};
 use symbol_interleave::laws::{h_is_a_permutation, places_and_words_agree};
 use symbol_parameters::laws::{settings, steps, words};
-
-fn counted_at(mode: Mode, l: u8)
-    ensures { AreCounted mode l }
-{
-    symbols_have_as_many_payload_carriers(mode, l);
-    payload_carriers_are_numbered(mode, l);
-}
-
-// If it holds for four symbols, it holds for all: the kinds of carriers repeat.
-fn counted(mode: Mode)
-    ensures { (l : ℕ) → AreCounted mode l }
-{
-    counted_at(mode, 0);
-    counted_at(mode, 1);
-    counted_at(mode, 2);
-    counted_at(mode, 3);
-}
 
 /// The counts of words and frames over all super-frames add up to those of the closing lines, which are those of a
 /// reception of the same bytes.
@@ -100,6 +80,7 @@ pub fn transmissions_are_measured()
 {
     counted(Mode::M2k);
     counted(Mode::M8k);
+    symbols_have_whole_periods();
     existence();
     given_once();
     given_grows();
@@ -119,7 +100,6 @@ pub fn transmissions_are_measured()
     steps_send_in_order();
     steps_are_numbered();
     lists_are_paths();
-    symbols_have_whole_periods();
     near_points_are_decided();
     symbols_are_compared();
     own_cells();

@@ -160,54 +160,39 @@ impl<'a, R: Files + Print> Station<'a> for FileStation<'a, R> {
 
     fn create(&mut self, port: OutPort, name: &'a str) -> Result<(), Failed> {
         let made = self.make(name);
+        let faults = &mut self.write_faults;
         let outputs = &mut self.outputs;
         match port {
-            OutPort::Cells => {
-                let answer = create_at(&mut outputs.cells, name, made);
-                counted(answer, &mut self.write_faults)
-            }
-            OutPort::Hp => {
-                let answer = create_at(&mut outputs.hp, name, made);
-                counted(answer, &mut self.write_faults)
-            }
-            OutPort::Lp => {
-                let answer = create_at(&mut outputs.lp, name, made);
-                counted(answer, &mut self.write_faults)
-            }
-            OutPort::Bytes => {
-                let answer = create_at(&mut outputs.bytes, name, made);
-                counted(answer, &mut self.write_faults)
-            }
+            OutPort::Cells => counted(create_at(&mut outputs.cells, name, made), faults),
+            OutPort::Hp => counted(create_at(&mut outputs.hp, name, made), faults),
+            OutPort::Lp => counted(create_at(&mut outputs.lp, name, made), faults),
+            OutPort::Bytes => counted(create_at(&mut outputs.bytes, name, made), faults),
             OutPort::Report => unreachable!(),
         }
     }
 
     fn write(&mut self, port: OutPort, bytes: &[u8]) -> Result<(), Failed> {
+        let faults = &mut self.write_faults;
         let outputs = &mut self.outputs;
         match port {
             OutPort::Cells => {
                 outputs.pending = true;
-                let answer = outputs.cells.write(bytes);
-                counted(answer, &mut self.write_faults)
+                counted(outputs.cells.write(bytes), faults)
             }
             OutPort::Hp => {
                 outputs.pending = true;
-                let answer = outputs.hp.write(bytes);
-                counted(answer, &mut self.write_faults)
+                counted(outputs.hp.write(bytes), faults)
             }
             OutPort::Lp => {
                 outputs.pending = true;
-                let answer = outputs.lp.write(bytes);
-                counted(answer, &mut self.write_faults)
+                counted(outputs.lp.write(bytes), faults)
             }
             OutPort::Bytes => {
                 outputs.pending = true;
-                let answer = outputs.bytes.write(bytes);
-                counted(answer, &mut self.write_faults)
+                counted(outputs.bytes.write(bytes), faults)
             }
             OutPort::Report => {
-                let reported = outputs.report(self.rt, bytes);
-                let answer = counted(reported, &mut self.write_faults);
+                let answer = counted(outputs.report(self.rt, bytes), faults);
                 counted(answer, &mut self.report_faults)
             }
         }
@@ -218,24 +203,13 @@ impl<'a, R: Files + Print> Station<'a> for FileStation<'a, R> {
     }
 
     fn close(&mut self, port: OutPort) -> Result<(), Failed> {
+        let faults = &mut self.close_faults;
         let outputs = &mut self.outputs;
         match port {
-            OutPort::Cells => {
-                let answer = outputs.cells.close();
-                counted(answer, &mut self.close_faults)
-            }
-            OutPort::Hp => {
-                let answer = outputs.hp.close();
-                counted(answer, &mut self.close_faults)
-            }
-            OutPort::Lp => {
-                let answer = outputs.lp.close();
-                counted(answer, &mut self.close_faults)
-            }
-            OutPort::Bytes => {
-                let answer = outputs.bytes.close();
-                counted(answer, &mut self.close_faults)
-            }
+            OutPort::Cells => counted(outputs.cells.close(), faults),
+            OutPort::Hp => counted(outputs.hp.close(), faults),
+            OutPort::Lp => counted(outputs.lp.close(), faults),
+            OutPort::Bytes => counted(outputs.bytes.close(), faults),
             OutPort::Report => {
                 self.report_closed = true;
                 Ok(())

@@ -28,38 +28,6 @@ pub(crate) fn end_place(count: u64, m: u64) -> usize
     (count - m).min(8) as usize + 7
 }
 
-// The change at a place, 0 if the file does not have it and the one before it.
-fn change_at<M: Carriers>(window: &PilotWindow<M>, m: u64, p: usize) -> u64
-    requires there { m < window.now.count }
-    requires late { window.now.count ≤ m + 8 }
-    requires few { window.now.count ≤ 2 ^ 32 }
-    requires place { p < 16 }
-    ensures is { (symbols : List (List Cell)) → StandsFor M.MODE window.now symbols → first_place m < p
-        → p < end_place window.now.count m → result ≡ change (comb_of M.MODE symbols) (symbol_at m p) }
-    ensures most { result ≤ 2 ^ 44 }
-{
-    if p <= first_place(m) || p >= end_place(window.count(), m) {
-        return 0;
-    }
-    change(window, m + p as u64 - 7)
-}
-
-/// The changes of the symbols around symbol `m` from those before them, by their places.
-pub(crate) fn changes<M: Carriers>(window: &PilotWindow<M>, m: u64) -> [u64; 16]
-    requires there { m < window.now.count }
-    requires late { window.now.count ≤ m + 8 }
-    requires few { window.now.count ≤ 2 ^ 32 }
-    ensures are { (symbols : List (List Cell)) → StandsFor M.MODE window.now symbols
-        → HasChanges (comb_of M.MODE symbols) m result }
-    ensures most { (p : ℕ) → p < 16 → get_or result p 0 ≤ 2 ^ 44 }
-{
-    let mut changes = [0; 16];
-    for p in 0..16 {
-        changes[p] = change_at(window, m, p);
-    }
-    changes
-}
-
 /// Room for the changes of sixteen symbols, none of which is kept yet.
 pub fn no_changes() -> [u64; 16]
     ensures { AreLow result }

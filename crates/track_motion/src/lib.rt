@@ -6,10 +6,11 @@
 
 mod changes;
 mod motions;
+pub mod plain;
 mod residues;
 mod surroundings;
 
 pub use changes::{no_changes, push_change};
 pub use motions::{motion, noise};
 pub use residues::{Residues, follow, turned_value};
-pub use surroundings::{Surroundings, is_seen, look, look_by};
+pub use surroundings::{Surroundings, is_seen, look_by};

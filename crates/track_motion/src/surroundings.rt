@@ -7,13 +7,13 @@ ghost use Rattle.tracking.specs.InTime.{is_good, is_there, symbol_at};
 ghost use Rattle.tracking.specs.Moving.{is_seen};
 ghost use Rattle.track_motion.specs.Around.{IsAround, IsLook};
 ghost use Rattle.track_motion.specs.Kept.{AreLow, KeepsChanges};
-ghost use Rattle.track_motion.specs.Places.{end_place, first_place, in_file, HasLesser};
+ghost use Rattle.track_motion.specs.Places.{end_place, first_place, in_file, HasChanges, HasLesser};
 ghost use Rattle.track_pilots.specs.Window.{StandsFor};
 ghost use Rattle.qam_map.specs.declared.cell.Cell.{Cell};
 ghost use Rattle.track_arithmetic.specs.Laws.{IsWithin};
 ghost use Rattle.track_arithmetic.specs.Numbers.{nothing};
 
-use crate::changes::{changes, changes_by, end_place, first_place, lesser_changes, middle_change};
+use crate::changes::{changes_by, end_place, first_place, lesser_changes, middle_change};
 use mode_set::Carriers;
 use track_arithmetic::Complex;
 use track_pilots::PilotWindow;
@@ -89,18 +89,23 @@ fn are_good(lesser: &[u64; 16], middle: u64, first: usize, end: usize) -> [bool;
     good
 }
 
-/// Looks at the symbols around symbol `m`, of which the window has the last one.
-pub fn look<M: Carriers>(window: &PilotWindow<M>, m: u64) -> Surroundings
+/// What is seen around symbol `m`, by the changes of the symbols around it.
+pub(crate) fn seen_by<M: Carriers>(
+    window: &PilotWindow<M>,
+    m: u64,
+    changes: &[u64; 16],
+) -> Surroundings
     requires there { m < window.now.count }
     requires late { window.now.count ≤ m + 8 }
     requires few { window.now.count ≤ 2 ^ 32 }
+    requires small { AreLow changes.now }
     ensures looks { IsLook window.now.count m result }
     ensures are { (symbols : List (List Cell)) → StandsFor M.MODE window.now symbols
-        → IsAround (comb_of M.MODE symbols) m result }
+        → HasChanges (comb_of M.MODE symbols) m changes.now → IsAround (comb_of M.MODE symbols) m result }
 {
     let first = first_place(m);
     let end = end_place(window.count(), m);
-    let lesser = lesser_changes(&changes(window, m), first, end);
+    let lesser = lesser_changes(changes, first, end);
     let middle = middle_change(&lesser, first, end);
     Surroundings {
         there: are_there(first, end),
@@ -110,7 +115,7 @@ pub fn look<M: Carriers>(window: &PilotWindow<M>, m: u64) -> Surroundings
     }
 }
 
-/// The same by the kept changes of the symbols.
+/// Looks at the symbols around symbol `m`, of which the window has the last one, by the kept changes of the symbols.
 pub fn look_by<M: Carriers>(window: &PilotWindow<M>, m: u64, kept: &[u64; 16]) -> Surroundings
     requires there { m < window.now.count }
     requires late { window.now.count ≤ m + 8 }
@@ -120,16 +125,7 @@ pub fn look_by<M: Carriers>(window: &PilotWindow<M>, m: u64, kept: &[u64; 16]) -
     ensures are { (symbols : List (List Cell)) → StandsFor M.MODE window.now symbols
         → KeepsChanges (comb_of M.MODE symbols) kept.now → IsAround (comb_of M.MODE symbols) m result }
 {
-    let first = first_place(m);
-    let end = end_place(window.count(), m);
-    let lesser = lesser_changes(&changes_by(m, kept), first, end);
-    let middle = middle_change(&lesser, first, end);
-    Surroundings {
-        there: are_there(first, end),
-        good: are_good(&lesser, middle, first, end),
-        turns: turns(window, m),
-        middle,
-    }
+    seen_by(window, m, &changes_by(m, kept))
 }
 
 // Whether all five are set.

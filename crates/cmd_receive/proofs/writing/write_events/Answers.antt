@@ -40,10 +40,10 @@ loop-event-preserved g c =
     let e = c.in_ok-push_line.ensures in
     let i : ℕ = c.loop-event.event-index in
     record {
-      printing = record { created = ap (λ (x : Meaning). x.report.created) e.others ∙ inv.printing.created; opened = ap (λ (x : Meaning). x.report.closed) e.others ∙ inv.printing.opened };
-      others = report_again m m' m'' inv.others e.others;
-      write_faults = e.cause.1 ∙ inv.write_faults;
-      later_report = omega (arith, e.later_report, inv.later_report);
+      printing = record { created = ap (λ (x : Meaning). x.report.created) e.prints.others ∙ inv.printing.created; opened = ap (λ (x : Meaning). x.report.closed) e.prints.others ∙ inv.printing.opened };
+      others = report_again m m' m'' inv.others e.prints.others;
+      write_faults = e.prints.cause.1 ∙ inv.write_faults;
+      later_report = omega (arith, e.prints.later_report, inv.later_report);
       written = λ t. waits_more c.line.result.bytes c.loop-event.text.bytes c.push_line.new.text.bytes m.report.written m'.report.written m''.report.written
           (event_text (take i c.args.events.now)) (event_text (take (i + 1) c.args.events.now)) (inv.written t) (e.pushes (ap (λ (x : Meaning). x.tells) inv.others ∙ t))
           (event_more c.args.events.now i _ c.line.result.bytes c.loop-event-test.true c.line.ensures);

@@ -41,6 +41,6 @@ returns-clause-written g c = λ t.
     let w : WritesAt outs.Hp out.hp m m' (Ok tt) = subst (λ (b : List ℕ). WritesAt outs.Hp b m m' (Ok tt)) c.hp.ensures c.in_ok-write_some.ensures.writes in
     let v : WritesLp c.args.two out.lp m' m'' (Ok tt) = subst (λ (b : List ℕ). WritesLp c.args.two b m' m'' (Ok tt)) c.lp.ensures c.in_ok-write_lp.ensures.writes in
     let both : WritesOnly m m'' = writes_again m m' m'' (hp_frame out.hp m m' (Ok tt) w) (lp_frame c.args.two out.lp m' m'' (Ok tt) v) in
-    wrote c.args.two out m m' m'' t w m''' v c.write_events.ensures.others c.write_events.result
+    wrote c.args.two out m m' m'' t w m''' v c.write_events.ensures.prints.others c.write_events.result
     (subst (λ (es : List Event). Appends (event_text es) m''.report.written m'''.report.written c.write_events.result) c.events.ensures
     (c.write_events.ensures.written (ap (λ (x : Meaning). x.tells) both ∙ t)))

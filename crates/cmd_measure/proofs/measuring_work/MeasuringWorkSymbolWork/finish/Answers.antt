@@ -18,7 +18,7 @@ pub write_lines-requires : goal.write_lines-requires
 write_lines-requires g c κs = ((refl, tt), record { created = c.requires.open.report; opened = c.requires.open.report_open })
 
 pub returns-clause-others : goal.returns-clause-others
-returns-clause-others g c = report_only (g.S.Station.meaning c.args.station.now) (g.S.Station.meaning c.write_lines.new.station) c.write_lines.ensures.others
+returns-clause-others g c = report_only (g.S.Station.meaning c.args.station.now) (g.S.Station.meaning c.write_lines.new.station) c.write_lines.ensures.prints.others
 
 pub returns-clause-finishes : goal.returns-clause-finishes
 returns-clause-finishes g c = λ bytes before stood gives.
@@ -28,5 +28,5 @@ returns-clause-finishes g c = λ bytes before stood gives.
     let more : List ℕ = concat c.finish.new.out in
     let final = ended x (g.T.ModeMeasurer.state c.finish.new.self) bytes _ c.finish.ensures.settings (c.finish.ensures.finished bytes stood.0 stood.1.0) in
     prints (λ (after : Written). Unit {0}) (Prints (MeasureFinal x.settings bytes)) (λ (r : Refusal). ⊥) stood.0 more before m m' c.write_lines.result stood.2
-    tt (stood.0 ++ more, final, (λ port. refl)) c.write_lines.ensures.others c.write_lines.ensures.kind
+    tt (stood.0 ++ more, final, (λ port. refl)) c.write_lines.ensures.prints.others c.write_lines.ensures.prints.kind
     (λ t. subst (λ (l : List (List ℕ)). Appends (concat l) m.report.written m'.report.written c.write_lines.result) c.lines.ensures.lines (c.write_lines.ensures.written t))

@@ -19,7 +19,7 @@ pub returns-clause-setup : goal.returns-clause-setup
 returns-clause-setup g c = (c.requires.going.stands.1.1.feeds _ _ _ _ _ _ c.feeder.ensures).settings
 
 pub returns-clause-others : goal.returns-clause-others
-returns-clause-others g c = report_only (g.S.Station.meaning c.args.station.now) (g.S.Station.meaning c.write_lines.new.station) c.write_lines.ensures.others
+returns-clause-others g c = report_only (g.S.Station.meaning c.args.station.now) (g.S.Station.meaning c.write_lines.new.station) c.write_lines.ensures.prints.others
 
 pub returns-clause-takes : goal.returns-clause-takes
 returns-clause-takes g c = λ bytes before stood gives none fits.
@@ -33,5 +33,5 @@ returns-clause-takes g c = λ bytes before stood gives none fits.
     let fed = stood.1.1.feeds _ _ _ _ _ _ c.feeder.ensures in
     let after = took g.T.ModeMeasurer.size x y bytes piece stood.0 _ _ stood.1.2 (omega (arith, none, fits)) stood.1.0 fed in
     prints (Prints (stands' (bytes ++ piece))) (Prints (MeasureLive x.settings (bytes ++ piece))) (λ (r : Refusal). (left : List ℕ) → ⊥) stood.0 more before m m' c.write_lines.result stood.2
-    (stood.0 ++ more, (after, stood.1.1, ap symbol_length fed.settings ∙ stood.1.2), (λ port. refl)) (stood.0 ++ more, live x y (bytes ++ piece) _ fed.settings after, (λ port. refl)) c.write_lines.ensures.others c.write_lines.ensures.kind
+    (stood.0 ++ more, (after, stood.1.1, ap symbol_length fed.settings ∙ stood.1.2), (λ port. refl)) (stood.0 ++ more, live x y (bytes ++ piece) _ fed.settings after, (λ port. refl)) c.write_lines.ensures.prints.others c.write_lines.ensures.prints.kind
     (λ t. subst (λ (l : List (List ℕ)). Appends (concat l) m.report.written m'.report.written c.write_lines.result) c.lines.ensures.lines (c.write_lines.ensures.written t))

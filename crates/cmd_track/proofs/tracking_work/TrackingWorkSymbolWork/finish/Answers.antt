@@ -51,7 +51,7 @@ returns-clause-finishes g c = λ bytes before stood gives.
     let all : List Symbol = received s bytes in
     let cells : List ℕ = symbols_from s all (symbols s bytes - 7) in
     let text : List ℕ = c.as_bytes.result.now in
-    let is : text ≡ closing_line s bytes = c.as_bytes.ensures.value ∙ c.as_str.ensures.value ∙ c.closing_line-line.ensures ∙ ap₂ counts_line stood.whole stood.after in
+    let is : text ≡ closing_line s bytes = c.as_bytes.ensures.value ∙ c.as_str.ensures.value ∙ c.line_of_counts-line.ensures ∙ ap₂ counts_line stood.whole stood.after in
     let left = left_are g.M.Carriers.MODE x.tracker x.symbol (vec_capacity x.room) x.symbols x.tail bytes before stood c.end.new.self c.end.ensures.settings c.end.ensures.given in
     let e = c.in_ok-write_rest.ensures in
     ended (λ after. Unit {0}) (AllGive s bytes) (λ (r : Refusal). ⊥) before (written_at (ended_file s bytes) text) (λ port. ap (λ (l : List ℕ). written_at (ended_file s bytes) l port) is) cells text

@@ -5,7 +5,7 @@ use Rattle.tracking.specs.InTime.{symbol_at}
 use Rattle.track_pilots.specs.Window.{StandsFor}
 use Rattle.qam_map.specs.declared.cell.Cell.{Cell}
 use Rattle.track_motion.specs.Places.{end_place, first_place}
-use Rattle.track_motion.proofs.changes.changes.Given as goal
+use Rattle.track_motion.proofs.plain.changes.Given as goal
 
 abbrev pub invariant-loop-p : goal.invariant-loop-p
 invariant-loop-p g l = record {

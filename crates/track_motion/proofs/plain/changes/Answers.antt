@@ -6,7 +6,7 @@ use Rattle.tracking.specs.InTime.{symbol_at}
 use Rattle.track_motion.specs.Places.{end_place, first_place}
 use Rattle.track_motion.proofs.Steps.{set_below}
 use Rattle.track_motion.proofs.Tests.{count_of}
-use Rattle.track_motion.proofs.changes.changes.Goals as goal
+use Rattle.track_motion.proofs.plain.changes.Goals as goal
 
 pub loop-p-preserved : goal.loop-p-preserved
 loop-p-preserved g c =

@@ -1,6 +1,6 @@
 -- The corrected cell and its weight.
 use Rattle.cell_equal.proofs.Quotients.{zero_power, with_weight}
-use Rattle.cell_equal.proofs.divide.plainly_corrected.Goals as goal
+use Rattle.cell_equal.proofs.plain.plainly_corrected.Goals as goal
 
 pub returns-then-n-eq0 : goal.returns-then-n-eq0
 returns-then-n-eq0 c = zero_power c.args.gain c.args.cell c.args.weight _ c.power-n.ensures.is c.if-n-eq0.true

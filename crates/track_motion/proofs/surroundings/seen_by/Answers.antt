@@ -6,10 +6,10 @@ use Rattle.tracking.specs.InTime.{is_there}
 use Rattle.track_motion.specs.Places.{in_file, first_place, end_place}
 use Rattle.track_motion.proofs.Tests.{count_of, there_is}
 use Rattle.track_motion.proofs.Looks.{good_is, same_file}
-use Rattle.track_motion.proofs.surroundings.look.Goals as goal
+use Rattle.track_motion.proofs.surroundings.seen_by.Goals as goal
 
 pub returns-clause-are : goal.returns-clause-are
-returns-clause-are g c = λ symbols h.
+returns-clause-are g c = λ symbols h changes.
     let comb = comb_of g.M.Carriers.MODE symbols in
     let m = c.args.m in
     let n = c.args.window.now.count in
@@ -17,7 +17,7 @@ returns-clause-are g c = λ symbols h.
     let some : m < comb.count = omega (arith, count, c.requires.there) in
     let first = c.first_place-first.ensures in
     let end = c.end_place-end.ensures ∙ ap (λ (z : ℕ). end_place z m) (c.count.ensures ∙ sym count) in
-    let lesser = c.lesser_changes-lesser.ensures.are comb m (c.changes.ensures.are symbols h) first end some in
+    let lesser = c.lesser_changes-lesser.ensures.are comb m changes first end some in
     let middle = c.middle_change-middle.ensures.is comb m lesser first end some in
     record {
       there = λ p lt. c.are_there.ensures p lt ∙ same_file comb m p c.first_place-first.result c.end_place-end.result first end some;
