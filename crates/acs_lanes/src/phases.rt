@@ -115,9 +115,9 @@ pub(crate) fn half_word(phase: usize, first: u8x16, last: u8x16) -> u64
     bytes.simd_lt(u8x32::splat(128)).to_bitmask()
 }
 
-/// The word of the states that the even way leads to, by the marks of those below 32 and of the others, before its bits are
-/// put in the order of states.
-// So they need no turning over here, which four words have together later.
+/// The word of the states that the even way leads to, by the marks of those below 32 and of the others, before its bits
+/// are put in the order of states.
+// They are turned over later, in four words at once.
 #[inline(always)]
 pub(crate) fn word_in(
     phase: usize,

@@ -14,8 +14,8 @@ use crate::word_order::order_words;
 use conv_code::CostPair;
 use std::simd::u16x16;
 
-/// The step over all states in a phase: the new costs, and a bit for each state that the even way leads to, in the order of
-/// the phase.
+/// The step over all states in a phase: the new costs, and a bit for each state that the even way leads to, in the
+/// order of the phase.
 #[inline(always)]
 fn step_in(phase: usize, old: Lanes, sums: u16x16) -> (Lanes, u64)
     requires phase { phase < 6 }
@@ -41,8 +41,8 @@ fn step_in(phase: usize, old: Lanes, sums: u16x16) -> (Lanes, u64)
     )
 }
 
-/// Two steps, whose words have the sums of their costs before and their decisions after, in the order of the phases. First the lanes are made such
-/// that the costs of both may be added.
+/// Two steps. Their words have the sums of their costs before and their decisions after, in the order of the phases.
+/// First the lanes are made such that the costs of both may be added.
 #[inline(always)]
 fn two_in(phase: usize, from: Lanes, words: &mut [u64], at: usize) -> Lanes
     requires phase { phase < 5 }

@@ -35,8 +35,8 @@ pub struct Unmerged {
     pub at: u64,
 }
 
-/// The most steps of a slice. With a path memory of 2048 steps most bits are given straight from the decision words of a
-/// slice, and only the rest is pushed.
+/// The most steps of a slice. With a path memory of 2048 steps, most bits are given straight from a slice's decision
+/// words, and only the rest is pushed.
 pub(crate) const SLICE: usize = 2049;
 
 /// A report: gives all pending bits of the least path. Only its register stays alive.
