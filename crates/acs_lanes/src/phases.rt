@@ -124,8 +124,8 @@ pub(crate) fn half_word(first: u8x16, last: u8x16) -> u64
     half_marks(0, first, last) ^ 0xFFFF_FFFF
 }
 
-/// The word of the states that the even way leads to, by the marks of those below 32 and of the others, before its bits are
-/// put in the order of states.
+/// The word of the states that the even way leads to, by the marks of those below 32 and of the others, before its bits
+/// are put in the order of states.
 // It is turned over when they are, four words at once.
 #[inline(always)]
 pub(crate) fn word_in(
