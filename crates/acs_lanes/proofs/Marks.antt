@@ -1,5 +1,5 @@
 -- The marks of lanes as bytes.
-use Rattle.std.proofs.Common.{◌≡◌, ℕ, zero, suc, ◌+◌, ◌-◌, ◌*◌, ◌/◌, ◌%◌, ◌<◌, ◌≤◌, Bool, true, false, cond, List, [], ◌∷◌, ◌++◌, map, length, get_or, ◌⊎◌, inl, inr, refl, ap, ◌∙◌, arith, eqb, ltb}
+use Rattle.std.proofs.Common.{◌≡◌, ℕ, zero, suc, ◌+◌, ◌-◌, ◌*◌, ◌/◌, ◌%◌, ◌<◌, ◌≤◌, Bool, true, false, cond, List, [], ◌∷◌, ◌++◌, map, length, get_or, ◌⊎◌, inl, inr, refl, ap, ◌∙◌, arith, eqb}
 use Rattle.std.proofs.lemmas.Bool.{cases_lt}
 use Rattle.std.proofs.lemmas.List.{get_or_append_left, get_or-append_right}
 use Rattle.std.specs.Prelude.{slice_index}
@@ -15,10 +15,6 @@ holds_at f (x ∷ xs) (suc k) l = holds_at f xs k (omega arith)
 pub one : (b : Bool) → eqb (cond b 1 0) 1 ≡ b
 one true = refl
 one false = refl
-
-pub below_half : (b : Bool) → ltb (cond b 0 255) 128 ≡ b
-below_half true = refl
-below_half false = refl
 
 module _ (first last : List ℕ) (is_odd : ℕ → Bool) (m : AreMarks first last is_odd) where
   mark_at : (w : ℕ) → w < 32 → slice_index (first ++ last) w ≡ cond (is_odd w) 0 255

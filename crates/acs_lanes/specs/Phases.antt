@@ -102,7 +102,8 @@ mask_in (suc (suc zero)) = 264913582878960
 mask_in (suc (suc (suc zero))) = 225176545447116
 mask_in (suc (suc (suc (suc p)))) = 187647121205930
 
--- The decisions of a step in the order of states, from the word of a phase: its bits are set if the even way was taken.
+-- The decisions of a step in the order of states, from the word of a phase, whose bits are set if the even way was
+-- taken.
 abbrev pub in_order : ℕ → ℕ → ℕ
 in_order phase word = moved_by (shift_in phase) (mask_in phase) (bit_not w64 word)
 

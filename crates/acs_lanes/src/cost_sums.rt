@@ -1,5 +1,5 @@
-// The sums of the steps' costs, made before the steps, four steps at once. The sums of a step are in the word that will
-// have its decisions.
+// The sums of the steps' costs, made before the steps, four steps at once. Each step's sums are in the word that its
+// decisions replace.
 ghost use Rattle.std.specs.Prelude.{◌≡◌, ◌*◌, ◌/◌, ◌<◌, ◌≤◌, ◌+◌, ℕ, [], ◌∷◌, length, map, slice_index};
 ghost use Rattle.code_paths.specs.declared.costs.CostPair.{CostPair as Pair};
 ghost use Rattle.acs_lanes.specs.Phases.{all_sums, sum_word};

@@ -1,5 +1,5 @@
 // The tables of a step in each of the six phases.
-ghost use Rattle.std.specs.Prelude.{◌≡◌, ◌≤◌, ◌<◌, ◌+◌, ◌*◌, ◌%◌, ◌^◌, ◌++◌, ℕ, Bool, length, slice_index};
+ghost use Rattle.std.specs.Prelude.{◌≡◌, ◌≤◌, ◌<◌, ◌+◌, ◌*◌, ◌%◌, ◌^◌, ◌++◌, ℕ, Bool, not, length, slice_index};
 ghost use Rattle.spec_words.specs.Bits.{is_set};
 ghost use Rattle.code_paths.specs.declared.costs.CostPair.{CostPair as Pair};
 ghost use Rattle.acs_lanes.specs.Lanes16.{AreMarks};
@@ -103,21 +103,30 @@ fn by_halves(first: u8x16, last: u8x16) -> u8x32
     )
 }
 
-/// The word of the lanes of two vectors that have no mark.
+/// The word of the lanes of two vectors that have a mark.
 #[inline(always)]
-pub(crate) fn half_word(phase: usize, first: u8x16, last: u8x16) -> u64
+fn half_marks(phase: usize, first: u8x16, last: u8x16) -> u64
     requires { phase < 6 }
     ensures small { result < 2 ^ 32 }
     ensures bits { (is_odd : ℕ → Bool) → AreMarks first last is_odd → (k : ℕ) → k < 32 → is_set result k
-        ≡ is_odd (way_in phase (exchanged phase k)) }
+        ≡ not (is_odd (way_in phase (exchanged phase k))) }
 {
     let bytes = ordered_in(phase, by_halves(first, last));
-    bytes.simd_lt(u8x32::splat(128)).to_bitmask()
+    bytes.simd_ge(u8x32::splat(128)).to_bitmask()
+}
+
+/// The word of the lanes of two vectors that have no mark, in the order of the first phase.
+pub(crate) fn half_word(first: u8x16, last: u8x16) -> u64
+    ensures small { result < 2 ^ 32 }
+    ensures bits { (is_odd : ℕ → Bool) → AreMarks first last is_odd → (k : ℕ) → k < 32 → is_set result k
+        ≡ is_odd (way_in 0 k) }
+{
+    half_marks(0, first, last) ^ 0xFFFF_FFFF
 }
 
 /// The word of the states that the even way leads to, by the marks of those below 32 and of the others, before its bits
 /// are put in the order of states.
-// They are turned over later, in four words at once.
+// It is turned over when they are, four words at once.
 #[inline(always)]
 pub(crate) fn word_in(
     phase: usize,
@@ -132,9 +141,7 @@ pub(crate) fn word_in(
     ensures high { (is_odd : ℕ → Bool) → AreMarks high_first high_last is_odd → (k : ℕ) → k < 32
         → is_set (in_order phase result) (k + 32) ≡ is_odd (way_in phase k) }
 {
-    let low = half_word(phase, low_first, low_last);
-    let high = half_word(phase, high_first, high_last);
-    !(low | high << 32)
+    half_marks(phase, low_first, low_last) | half_marks(phase, high_first, high_last) << 32
 }
 
 /// The lower four of each eight lanes of two vectors in turn, and the upper four.

@@ -14,8 +14,8 @@ use crate::word_order::order_words;
 use conv_code::CostPair;
 use std::simd::u16x16;
 
-/// The step over all states in a phase: the new costs, and a bit for each state that the even way leads to, in the
-/// order of the phase.
+/// The step over all states in a phase: the new costs, and a bit for each state that the even way leads to, in the order
+/// of the phase.
 #[inline(always)]
 fn step_in(phase: usize, old: Lanes, sums: u16x16) -> (Lanes, u64)
     requires phase { phase < 6 }
@@ -41,7 +41,7 @@ fn step_in(phase: usize, old: Lanes, sums: u16x16) -> (Lanes, u64)
     )
 }
 
-/// Two steps. Their words have the sums of their costs before and their decisions after, in the order of the phases.
+/// Two steps, whose words have the sums of their costs before and their decisions after, in the order of the phases.
 /// First the lanes are made such that the costs of both may be added.
 #[inline(always)]
 fn two_in(phase: usize, from: Lanes, words: &mut [u64], at: usize) -> Lanes
@@ -69,6 +69,7 @@ fn two_in(phase: usize, from: Lanes, words: &mut [u64], at: usize) -> Lanes
 }
 
 /// The steps by twelves, as far as there are such.
+// Words are put in order four at a time, so that six phases twice are the least.
 #[inline(never)]
 pub(crate) fn run_twelves(from: Lanes, pairs: &[CostPair], words: &mut [u64]) -> Lanes
     requires spread { IsSpread (all_with (laid from.a from.b from.c from.d)) }

@@ -125,7 +125,7 @@ pub(crate) fn step(old: Lanes, pair: CostPair) -> (Lanes, u64, u64)
     let (high_last, high_last_even) = pick(old.b, zero, old.d, one);
     (
         turned(low_first, low_last, high_first, high_last),
-        half_word(0, low_first_even, low_last_even),
-        half_word(0, high_first_even, high_last_even),
+        half_word(low_first_even, low_last_even),
+        half_word(high_first_even, high_last_even),
     )
 }
