@@ -21,6 +21,8 @@ use std::thread::Threads;
 use word_workers::Gate;
 
 // Allocates the memory for a mode's measurer and one symbol, and runs the work through this gate.
+// Not inlined: the measurer lies in its frame, and the settings are read on a smaller stack.
+#[inline(never)]
 fn measure_in<'a, 'r, M: Carriers, R: Threads + Sync, G: Gate, S: Station<'a>>(
     rt: &'r R,
     gate: &'r G,
