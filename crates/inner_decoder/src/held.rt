@@ -42,6 +42,10 @@ impl<V: Survivors<L>, const L: usize> Survivors<L> for Held<V, L> {
         self.inner.give(number, to);
     }
 
+    fn push_and_give(&mut self, decisions: &[u64], to: &mut WaitBuf) -> u32 {
+        self.inner.push_and_give(decisions, to)
+    }
+
     fn force(&mut self, end: u8, to: &mut WaitBuf) {
         self.inner.force(end, to);
     }

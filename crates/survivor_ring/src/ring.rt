@@ -132,15 +132,13 @@ fn trace_steps(
 
 /// A step back that keeps the bits passed: the predecessor is the lowest six bits, and above them are the newest bits
 /// of the states passed, the last one lowest.
-// With one less for a bit that is not set a step is `bt` and `adc`, two cycles, where one more for a bit that is set
-// takes three. In 32 bits, as LLVM puts two tracebacks of 64 into one vector, which is slower.
-fn walk_back(word: u64, walk: u32) -> u32
+fn walk_back(word: u64, walk: u64) -> u64
     requires { walk < 8192 }
     ensures state { result % 64 ≡ before word (walk % 64) }
     ensures rest { result / 2 ≡ walk }
 {
     let odd = (word >> (walk % 64)) & 1 == 1;
-    2 * walk + 1 - if odd { 0 } else { 1 }
+    2 * walk + if odd { 1 } else { 0 }
 }
 
 /// The bits of each byte in reverse order.
@@ -175,11 +173,11 @@ fn trace_byte(words: &[u64], state: u64) -> (u64, u8)
     ensures small { result.0 < 64 }
     ensures bits { spelled 8 result.1 ≡ trace words.now state }
 {
-    let mut walk = state as u32;
+    let mut walk = state;
     for k in 0..8usize {
         walk = walk_back(words[7 - k], walk);
     }
-    ((walk % 64) as u64, reversed((walk / 64 % 256) as u8))
+    (walk % 64, reversed((walk / 64 % 256) as u8))
 }
 
 /// Writes the bits of the newer words, and at the same time those of the older words for state 0 after them: two
