@@ -11,3 +11,4 @@ mod CellCosts
 mod Listing
 mod Fronts
 mod Quads
+mod Pairing

@@ -10,7 +10,7 @@ use Rattle.std.proofs.lemmas.Simd.{bitmask_splat, bit_mask_l}
 use lib.Lanes.{mask_l, top, zip2}
 use mir.Syntax.{w8}
 use Rattle.spec_words.specs.Bits.{is_set}
-use Rattle.mode_set.specs.StreamTable.{payload, label_bits, width, coded, need, rate, has_stream}
+use Rattle.mode_set.specs.StreamTable.{payload, label_bits, width, coded, has_stream, sent_in_period, steps_in_period}
 use Rattle.mode_set.specs.declared.modes.Mode.{Mode}
 use Rattle.mode_set.specs.declared.modes.Mode.TheVariants.{M2k, M8k}
 use Rattle.mode_set.specs.declared.modes.Shape.{Shape}
@@ -20,7 +20,7 @@ use Rattle.mode_set.specs.declared.modes.Hierarchy.TheVariants.{Flat}
 use Rattle.mode_set.specs.declared.modes.Rate.{Rate}
 use Rattle.mode_set.specs.declared.modes.Rate.TheVariants.{R2of3}
 use Rattle.mode_set.specs.declared.modes.Stream.{Stream}
-use Rattle.mode_set.specs.declared.modes.Stream.TheVariants.{Hp, Lp}
+use Rattle.mode_set.specs.declared.modes.Stream.TheVariants.{Hp}
 use Rattle.mode_set.specs.declared.settings.Settings.{Settings}
 use Rattle.puncture.specs.SentBits.{X, Y, sent, sent_bit}
 use Rattle.bit_interleave.specs.Place.{offset, place_in_label, word_of_bit, stream_at, EachBitIsFound}
@@ -29,7 +29,7 @@ use Rattle.inner_chain.specs.Labels.{Paths, coded_bits, parity_at, number_at, la
 use Rattle.inner_chain.specs.Tables.{first_step, read_bit, AreAllParities, IsEntry, most_steps}
 use Rattle.inner_chain.specs.Fours.{turned, parity_place, ArePacked, AreTurned, AppendsCarried}
 use Rattle.inner_chain.proofs.SentBits.{reads}
-use Rattle.inner_chain.proofs.Entering.{IsGoodEntry, good_entry, in_all_steps}
+use Rattle.inner_chain.proofs.Entering.{IsGoodEntry, good_entry}
 use Rattle.inner_chain.proofs.Symbols.{label_is}
 
 -- ---- bytes of a number
@@ -326,12 +326,12 @@ carried_more words m odd n old mid new source a es inside e = record {
             get_or_push a.labels x 0 q last ∙ ap (slice_index words) es ∙ ap (λ (z : ℕ). slice_index words (carried m odd z)) same
 
 -- ---- the coded bits of a word
--- bit e of word w is coded bit 6 T + i, the parity of step 4 T + t
-four_of : (s : Settings) (e w T i t n : ℕ) (y : Bool) → s.shape ≡ Qam64 → s.hierarchy ≡ Flat → s.rate_hp ≡ R2of3 → EachBitIsFound
-    → Hp ≡ stream_at Flat e → place_in_label Qam64 Flat Hp (6 * T + i) ≡ e → word_of_bit Qam64 Flat Hp (6 * T + i) ≡ w → 6 * T + i < payload s.mode * 6
-    → ((path : ℕ → Bool) → sent_bit R2of3 path (6 * T + i) ≡ parity_at (cond y 1 0) path (4 * T + t)) → ((p : ℕ) → 6 * T + i < p * 3 → 4 * T + t < p * 2)
-    → 2 * (0 + (4 * T + t)) + bool_byte y ≡ n → IsEntry s e w n
-four_of s e w T i t n y ec eh er found eσ ep ew l reads_at within en =
+-- bit e of word w is coded bit d, the parity of a step
+pub bit_entry : (c : Shape) (r : Rate) (s : Settings) (e w d step n : ℕ) (y : Bool) → s.shape ≡ c → s.hierarchy ≡ Flat → s.rate_hp ≡ r → EachBitIsFound
+    → Hp ≡ stream_at Flat e → place_in_label c Flat Hp d ≡ e → word_of_bit c Flat Hp d ≡ w → d < payload s.mode * width c Flat Hp
+    → ((path : ℕ → Bool) → sent_bit r path d ≡ parity_at (cond y 1 0) path step) → ((p : ℕ) → d < p * sent_in_period r → step < p * steps_in_period r)
+    → 2 * (0 + step) + bool_byte y ≡ n → IsEntry s e w n
+bit_entry c r s e w d step n y ec eh er found eσ ep ew l reads_at within en =
     subst (λ (z : ℕ). IsEntry s e w z) en good.is
   where
     exists : IsTrue (has_stream s.hierarchy Hp)
@@ -340,20 +340,27 @@ four_of s e w T i t n y ec eh er found eσ ep ew l reads_at within en =
     stream : Hp ≡ stream_at s.hierarchy e
     stream = eσ ∙ ap (λ (h : Hierarchy). stream_at h e) (sym eh)
 
-    place : place_in_label s.shape s.hierarchy Hp (6 * T + i) ≡ e
-    place = ap (λ (c : Shape). place_in_label c s.hierarchy Hp (6 * T + i)) ec ∙ ap (λ (h : Hierarchy). place_in_label Qam64 h Hp (6 * T + i)) eh ∙ ep
+    place : place_in_label s.shape s.hierarchy Hp d ≡ e
+    place = ap (λ (z : Shape). place_in_label z s.hierarchy Hp d) ec ∙ ap (λ (h : Hierarchy). place_in_label c h Hp d) eh ∙ ep
 
-    word : word_of_bit s.shape s.hierarchy Hp (6 * T + i) ≡ w
-    word = ap (λ (c : Shape). word_of_bit c s.hierarchy Hp (6 * T + i)) ec ∙ ap (λ (h : Hierarchy). word_of_bit Qam64 h Hp (6 * T + i)) eh ∙ ew
+    word : word_of_bit s.shape s.hierarchy Hp d ≡ w
+    word = ap (λ (z : Shape). word_of_bit z s.hierarchy Hp d) ec ∙ ap (λ (h : Hierarchy). word_of_bit c h Hp d) eh ∙ ew
 
-    six : width s.shape s.hierarchy Hp ≡ 6
-    six = ap (λ (c : Shape). width c s.hierarchy Hp) ec ∙ ap (λ (h : Hierarchy). width Qam64 h Hp) eh
+    same : width s.shape s.hierarchy Hp ≡ width c Flat Hp
+    same = ap (λ (z : Shape). width z s.hierarchy Hp) ec ∙ ap (λ (h : Hierarchy). width c h Hp) eh
 
-    few : 6 * T + i < coded s Hp
-    few = subst (λ (z : ℕ). 6 * T + i < payload s.mode * z) (sym six) l
+    few : d < coded s Hp
+    few = subst (λ (z : ℕ). d < payload s.mode * z) (sym same) l
 
-    good : IsGoodEntry s e w 0 (4 * T + t) y
-    good = good_entry s e w Hp (6 * T + i) 0 (4 * T + t) y R2of3 stream exists place word few found (sym er) refl reads_at within
+    good : IsGoodEntry s e w 0 step y
+    good = good_entry s e w Hp d 0 step y r stream exists place word few found (sym er) refl reads_at within
+
+-- at rate 2/3 and six bits a word, that is coded bit 6 T + i, the parity of step 4 T + t
+four_of : (s : Settings) (e w T i t n : ℕ) (y : Bool) → s.shape ≡ Qam64 → s.hierarchy ≡ Flat → s.rate_hp ≡ R2of3 → EachBitIsFound
+    → Hp ≡ stream_at Flat e → place_in_label Qam64 Flat Hp (6 * T + i) ≡ e → word_of_bit Qam64 Flat Hp (6 * T + i) ≡ w → 6 * T + i < payload s.mode * 6
+    → ((path : ℕ → Bool) → sent_bit R2of3 path (6 * T + i) ≡ parity_at (cond y 1 0) path (4 * T + t)) → ((p : ℕ) → 6 * T + i < p * 3 → 4 * T + t < p * 2)
+    → 2 * (0 + (4 * T + t)) + bool_byte y ≡ n → IsEntry s e w n
+four_of s e w T i t n y ec eh er found eσ ep ew l reads_at within en = bit_entry Qam64 R2of3 s e w (6 * T + i) (4 * T + t) n y ec eh er found eσ ep ew l reads_at within en
 
 -- the parity that coded bit 6 T + i is
 sent_is : (path : ℕ → Bool) (T i t j : ℕ) (y : Bool) → slice_index_or (sent R2of3) ((6 * T + i) % 3) (X 1) ≡ cond y (Y (j + 1)) (X (j + 1)) → (6 * T + i) / 3 * 2 + j ≡ 4 * T + t
@@ -369,7 +376,7 @@ word_is e T d w et ep ew =
     ap (λ (z : ℕ). 126 * (d / 6 / 126) + (d / 6 + 126 - offset z) % 126) ep
     ∙ ap (λ (z : ℕ). 126 * (z / 126) + (z + 126 - offset e) % 126) et ∙ ew
 
-turned_small : (m : Mode) (w o : ℕ) → w < payload m → 126 * (w / 126) + (w % 126 + o) % 126 < payload m
+pub turned_small : (m : Mode) (w o : ℕ) → w < payload m → 126 * (w / 126) + (w % 126 + o) % 126 < payload m
 turned_small M2k w o l = omega (arith, l)
 turned_small M8k w o l = omega (arith, l)
 
@@ -423,15 +430,14 @@ place_small (suc (suc (suc (suc zero)))) l = omega arith
 place_small (suc (suc (suc (suc (suc zero))))) l = omega arith
 place_small (suc (suc (suc (suc (suc (suc e)))))) l = absurd (omega (arith, l))
 
-pub fours_are : (s : Settings) (odd : Bool) (paths : Paths) (ps : List Bool) (bytes words : List ℕ) (number blocks : ℕ) (m : Mode) (old new : List ℕ)
-    → s.shape ≡ Qam64 → s.hierarchy ≡ Flat → s.rate_hp ≡ R2of3 → EachBitIsFound → s.mode ≡ m → number ≡ payload s.mode → blocks ≡ payload s.mode
-    → AreAllParities s paths ps → ArePacked ps number bytes → AreTurned bytes blocks words → AppendsCarried words m odd (payload m) old new → AppendsLabels s odd (coded_bits s paths) old new
-fours_are s odd paths ps bytes words number blocks m old new ec eh er found em en eb all packed words_are a =
+-- words whose bits are parities of the right steps, in carrier order
+pub carried_are : (s : Settings) (odd : Bool) (paths : Paths) (ps : List Bool) (words : List ℕ) (m : Mode) (entry : ℕ → ℕ → ℕ) (old new : List ℕ) → s.mode ≡ m → AreAllParities s paths ps
+    → ((w : ℕ) → w < payload s.mode → slice_index words w < 2 ^ label_bits s.shape)
+    → ((w e : ℕ) → w < payload s.mode → e < label_bits s.shape → IsEntry s e w (entry e w) × (is_set (slice_index words w) e ≡ read_bit ps (entry e w)))
+    → AppendsCarried words m odd (payload m) old new → AppendsLabels s odd (coded_bits s paths) old new
+carried_are s odd paths ps words m entry old new em all words_small words_are a =
     record { labels = a.labels; are = record { long = long; small = small; bit = bit }; is = a.is }
   where
-    six : label_bits s.shape ≡ 6
-    six = ap label_bits ec
-
     count : payload m ≡ payload s.mode
     count = ap payload (sym em)
 
@@ -445,7 +451,7 @@ fours_are s odd paths ps bytes words number blocks m old new ec eh er found em e
     is q l = a.at q (omega (arith, l, count)) ∙ ap (λ (z : Mode). slice_index words (carried z odd q)) (sym em)
 
     small : (q : ℕ) → q < payload s.mode → slice_index a.labels q < 2 ^ label_bits s.shape
-    small q l = subst (λ (z : ℕ). slice_index a.labels q < 2 ^ z) (sym six) (subst (λ (z : ℕ). z < 64) (sym (is q l)) (words_are.small (carried s.mode odd q) (omega (arith, inside q l, eb))))
+    small q l = subst (λ (z : ℕ). z < 2 ^ label_bits s.shape) (sym (is q l)) (words_small (carried s.mode odd q) (inside q l))
 
     bit : (q e : ℕ) → q < payload s.mode → e < label_bits s.shape → is_set (slice_index a.labels q) e ≡ label_bit s odd (coded_bits s paths) q e
     bit q e l le = read ∙ sym (label_is s odd (coded_bits s paths) q e)
@@ -453,35 +459,47 @@ fours_are s odd paths ps bytes words number blocks m old new ec eh er found em e
         w : ℕ
         w = carried s.mode odd q
 
-        few : e < 6
-        few = omega (arith, le, six)
-
         σ : Stream
         σ = stream_at s.hierarchy e
 
         n : ℕ
-        n = 8 * turned e w + parity_place e
+        n = entry e w
 
-        entry : IsEntry s e w n
-        entry = entry_of_four s e w ec eh er found few (inside q l)
+        found : IsEntry s e w n
+        found = (words_are w e (inside q l) le).0
 
         t : ℕ
         t = n / 2 - first_step s σ
 
-        gathered : is_set (slice_index a.labels q) e ≡ read_bit ps n
-        gathered =
-            ap (λ (z : ℕ). is_set z e) (is q l) ∙ words_are.at w e (omega (arith, inside q l, eb)) few
-            ∙ packed.at (turned e w) (parity_place e) (omega (arith, en, turned_small s.mode w (offset e) (inside q l))) (place_small e few)
-
         place : 2 * (first_step s σ + t) + n % 2 ≡ n
-        place = omega (arith, entry.from)
+        place = omega (arith, found.from)
 
         read : is_set (slice_index a.labels q) e ≡ coded_bits s paths σ (number_at s e w)
         read =
-            gathered
+            ap (λ (z : ℕ). is_set z e) (is q l)
+            ∙ (words_are w e (inside q l) le).1
             ∙ ap (read_bit ps) (sym place)
-            ∙ all.at σ t (n % 2) (omega (arith, entry.from, entry.to)) (omega arith)
-            ∙ sym (entry.reads (paths σ))
+            ∙ all.at σ t (n % 2) (omega (arith, found.from, found.to)) (omega arith)
+            ∙ sym (found.reads (paths σ))
+
+pub fours_are : (s : Settings) (odd : Bool) (paths : Paths) (ps : List Bool) (bytes words : List ℕ) (number blocks : ℕ) (m : Mode) (old new : List ℕ)
+    → s.shape ≡ Qam64 → s.hierarchy ≡ Flat → s.rate_hp ≡ R2of3 → EachBitIsFound → s.mode ≡ m → number ≡ payload s.mode → blocks ≡ payload s.mode
+    → AreAllParities s paths ps → ArePacked ps number bytes → AreTurned bytes blocks words → AppendsCarried words m odd (payload m) old new → AppendsLabels s odd (coded_bits s paths) old new
+fours_are s odd paths ps bytes words number blocks m old new ec eh er found em en eb all packed words_are a =
+    carried_are s odd paths ps words m (λ e w. 8 * turned e w + parity_place e) old new em all small at a
+  where
+    six : label_bits s.shape ≡ 6
+    six = ap label_bits ec
+
+    small : (w : ℕ) → w < payload s.mode → slice_index words w < 2 ^ label_bits s.shape
+    small w l = subst (λ (z : ℕ). slice_index words w < 2 ^ z) (sym six) (words_are.small w (omega (arith, l, eb)))
+
+    at : (w e : ℕ) → w < payload s.mode → e < label_bits s.shape → IsEntry s e w (8 * turned e w + parity_place e) × (is_set (slice_index words w) e ≡ read_bit ps (8 * turned e w + parity_place e))
+    at w e l le =
+        let few : e < 6 = omega (arith, le, six) in (
+          entry_of_four s e w ec eh er found few l,
+          words_are.at w e (omega (arith, l, eb)) few ∙ packed.at (turned e w) (parity_place e) (omega (arith, en, turned_small s.mode w (offset e) l)) (place_small e few),
+        )
 
 -- the words of a symbol: whole blocks, and whole groups of four
 pub record IsWhole (m : Mode) : Type 0 where

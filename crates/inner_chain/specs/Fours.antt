@@ -32,3 +32,8 @@ pub record AppendsCarried (words : List ℕ) (m : Mode) (odd : Bool) (n : ℕ) (
   pub long : length labels ≡ n
   pub within : (q : ℕ) → q < n → carried m odd q < payload m
   pub at : (q : ℕ) → q < n → slice_index labels q ≡ slice_index words (carried m odd q)
+
+-- at rate 1/2 and two bits a word: the first n words of a list have X of a step of their own and Y of a turned one
+pub record ArePairs (xs : List Bool) (n : ℕ) (words : List ℕ) : Type 0 where
+  pub small : (w : ℕ) → w < n → slice_index words w < 4
+  pub at : (w e : ℕ) → w < n → e < 2 → is_set (slice_index words w) e ≡ read_bit xs (2 * turned e w + e)

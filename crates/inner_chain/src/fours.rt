@@ -15,6 +15,7 @@ ghost use Rattle.inner_chain.specs.Fours.{AppendsCarried, ArePacked, AreTurned, 
 
 use bit_interleave::laws::each_bit_is_found;
 use mode_set::{Carriers, Hierarchy, Rate, Settings, Shape};
+use std::mem;
 use std::simd::cmp::SimdPartialEq;
 use std::simd::u8x32;
 use symbol_interleave::Permutation;
@@ -148,21 +149,25 @@ fn turned(bytes: &[u8; 6048], blocks: usize) -> [u8; 6048]
     words
 }
 
-// Appends the words in carrier order.
-fn push_carried<M: Carriers>(
-    words: &[u8; 6048],
+// Appends the words in carrier order. The list is a variable of its own meanwhile, so that its place and its length
+// stay in registers.
+pub(crate) fn push_carried<M: Carriers>(
+    words: &[u8],
     odd: bool,
     permutation: &Permutation<M>,
     to: &mut Vec<u8>,
 )
-    requires few { payload M.MODE ≤ 6048 }
+    requires few { payload M.MODE ≤ length words.now }
     requires spare { vec_len to.old + payload M.MODE ≤ vec_capacity to.old }
     ensures labels { AppendsCarried words.now M.MODE odd (payload M.MODE) to.old.items to.new.items }
     ensures capacity { vec_capacity to.new ≡ vec_capacity to.old }
 {
+    let alloc = *to.allocator();
+    let mut labels = mem::replace(to, Vec::new(alloc));
     for q in 0..M::MODE.payload() {
-        to.push_reserved(words[permutation.source(odd, q) as usize]);
+        labels.push_reserved(words[permutation.source(odd, q) as usize]);
     }
+    *to = labels;
 }
 
 // Appends the labels of a symbol whose coded bits are so.

@@ -17,6 +17,7 @@ mod plain;
 mod rx;
 mod sent_parity;
 mod symbol;
+mod twos;
 mod tx;
 
 pub use rx::InnerRx;

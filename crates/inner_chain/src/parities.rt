@@ -78,26 +78,6 @@ fn write_eight(rows: &[[bool; 8]], inputs: u16, to: &mut [bool], at: usize)
     write_four(&rows[(inputs % 1024) as usize], to, at + 8);
 }
 
-// Takes eight bits, and writes their parities behind those of the `done` steps before.
-fn encode_byte(
-    rows: &[[bool; 8]],
-    waiting: &mut WaitBuf,
-    encoder: &mut Encoder,
-    to: &mut [bool],
-    first: usize,
-    done: usize,
-)
-    requires rows { AreRows rows.now 1024 }
-    requires enough { 8 ≤ length waiting.old }
-    requires room { 2 * (first + done + 8) ≤ length to.old }
-    ensures goes { (w e x : List Bool) (n : ℕ) → done + 8 ≤ n
-        → IsEncoded w e x first n done waiting.old encoder.old to.old
-        → IsEncoded w e x first n (done + 8) waiting.new encoder.new to.new }
-{
-    let inputs = encoder.push_byte(waiting.take_byte().unwrap());
-    write_eight(rows, inputs, to, 2 * (first + done));
-}
-
 // Writes the parities of the bits of bytes behind those of the `done` steps before.
 fn encode_bytes(
     rows: &[[bool; 8]],
@@ -119,7 +99,28 @@ fn encode_bytes(
     }
 }
 
-// Takes as many bits as a chunk has, and writes their parities behind those of the `done` steps before.
+// Takes as many bits as a part of bytes has, and writes their parities behind those of the `done` steps before.
+fn encode_part(
+    rows: &[[bool; 8]],
+    waiting: &mut WaitBuf,
+    encoder: &mut Encoder,
+    part: &mut [u8],
+    to: &mut [bool],
+    first: usize,
+    done: usize,
+)
+    requires rows { AreRows rows.now 1024 }
+    requires enough { 8 * length part.old ≤ length waiting.old }
+    requires room { 2 * (first + done + 8 * length part.old) ≤ length to.old }
+    ensures goes { (w e x : List Bool) (n : ℕ) → done + 8 * length part.old ≤ n
+        → IsEncoded w e x first n done waiting.old encoder.old to.old
+        → IsEncoded w e x first n (done + 8 * length part.old) waiting.new encoder.new to.new }
+{
+    waiting.take_bytes(part);
+    encode_bytes(rows, part, encoder, to, first, done);
+}
+
+// Takes the bits of `number` bytes, at most 64, and writes their parities behind those of the `done` steps before.
 fn encode_chunk(
     rows: &[[bool; 8]],
     waiting: &mut WaitBuf,
@@ -127,17 +128,26 @@ fn encode_chunk(
     to: &mut [bool],
     first: usize,
     done: usize,
+    number: usize,
 )
     requires rows { AreRows rows.now 1024 }
-    requires enough { 512 ≤ length waiting.old }
-    requires room { 2 * (first + done + 512) ≤ length to.old }
-    ensures goes { (w e x : List Bool) (n : ℕ) → done + 512 ≤ n
+    requires few { number ≤ 64 }
+    requires enough { 8 * number ≤ length waiting.old }
+    requires room { 2 * (first + done + 8 * number) ≤ length to.old }
+    ensures goes { (w e x : List Bool) (n : ℕ) → done + 8 * number ≤ n
         → IsEncoded w e x first n done waiting.old encoder.old to.old
-        → IsEncoded w e x first n (done + 512) waiting.new encoder.new to.new }
+        → IsEncoded w e x first n (done + 8 * number) waiting.new encoder.new to.new }
 {
     let mut bytes = [0; 64];
-    waiting.take_bytes(&mut bytes);
-    encode_bytes(rows, &bytes, encoder, to, first, done);
+    encode_part(
+        rows,
+        waiting,
+        encoder,
+        &mut bytes[..number],
+        to,
+        first,
+        done,
+    );
 }
 
 // Takes a bit, and writes its parities behind those of the `done` steps before.
@@ -181,12 +191,10 @@ pub(crate) fn encode(
 {
     let mut done = 0;
     while done < count {
-        if count - done >= 512 {
-            encode_chunk(rows, waiting, encoder, to, first, done);
-            done += 512;
-        } else if count - done >= 8 {
-            encode_byte(rows, waiting, encoder, to, first, done);
-            done += 8;
+        if count - done >= 8 {
+            let number = ((count - done) / 8).min(64);
+            encode_chunk(rows, waiting, encoder, to, first, done, number);
+            done += 8 * number;
         } else {
             encode_bit(waiting, encoder, to, first, done);
             done += 1;

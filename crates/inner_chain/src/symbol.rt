@@ -9,6 +9,7 @@ ghost use Rattle.inner_chain.specs.Tables.{AreAllParities, AreEntries, AreRows, 
 use crate::fours::{has_fours, push_fours};
 use crate::gather::push_labels;
 use crate::parities::encode;
+use crate::twos::{has_twos, push_twos};
 use bit_pack::WaitBuf;
 use conv_code::Encoder;
 use mode_set::{Carriers, Settings, Shape, Stream};
@@ -92,6 +93,8 @@ pub(crate) fn push_symbol<M: Carriers>(
 {
     if has_fours(settings) {
         push_fours(settings, odd, parities, permutation, to);
+    } else if has_twos(settings) {
+        push_twos(settings, odd, parities, permutation, to);
     } else {
         push_gathered(settings, odd, entries, parities, to);
     }

@@ -1,4 +1,4 @@
-use Rattle.std.proofs.Common.{◌≡◌, ◌+◌, ◌*◌, ◌<◌, ℕ, subst, arith}
+use Rattle.std.proofs.Common.{◌≡◌, ◌*◌, ℕ, subst, arith}
 use Rattle.inner_chain.specs.Fours.{ArePacked}
 use Rattle.inner_chain.proofs.Quads.{none_packed, packed_more}
 use Rattle.inner_chain.proofs.fours.packed.Goals as goal

@@ -5,7 +5,7 @@ use Rattle.inner_chain.proofs.fours.push_carried.Given as goal
 
 abbrev pub invariant-loop-q : goal.invariant-loop-q
 invariant-loop-q g l = record {
-  labels : AppendsCarried l.words g.M.Carriers.MODE l.odd l.q l.initial.to.items l.to.items;
-  len : vec_len l.to ≡ vec_len l.initial.to + l.q;
-  capacity : vec_capacity l.to ≡ vec_capacity l.initial.to;
+  labels : AppendsCarried l.words g.M.Carriers.MODE l.odd l.q l.initial.labels.items l.labels.items;
+  len : vec_len l.labels ≡ vec_len l.initial.labels + l.q;
+  capacity : vec_capacity l.labels ≡ vec_capacity l.initial.labels;
 }

@@ -1,4 +1,4 @@
-use Rattle.std.proofs.Common.{◌≡◌, ◌+◌, ◌*◌, ◌<◌, ℕ, List, length, set, subst, arith}
+use Rattle.std.proofs.Common.{◌≡◌, ◌+◌, ◌*◌, ◌<◌, ℕ, length, set, subst, arith}
 use Rattle.inner_chain.specs.Fours.{AreTurned}
 use Rattle.inner_chain.proofs.Quads.{turned_more}
 use Rattle.inner_chain.proofs.fours.turn_block.Goals as goal

@@ -1,5 +1,3 @@
-use Rattle.std.proofs.Common.{◌≡◌, ◌*◌, ℕ, subst, arith}
-use Rattle.inner_chain.specs.Fours.{AreTurned}
 use Rattle.inner_chain.proofs.Quads.{none_turned}
 use Rattle.inner_chain.proofs.fours.turned.Goals as goal
 

@@ -1,4 +1,4 @@
-use Rattle.std.proofs.Common.{◌≡◌, ℕ, ◌+◌, ◌-◌, ◌≤◌, length, ap, ◌∙◌, subst, arith}
+use Rattle.std.proofs.Common.{◌≡◌, ℕ, ◌+◌, ◌-◌, ◌*◌, ◌≤◌, length, ap, ◌∙◌, subst, arith}
 use Rattle.std.proofs.lemmas.List.{length-drop}
 use Rattle.puncture.specs.SentBits.{bits_from}
 use Rattle.inner_chain.proofs.Encoding.{encode_begins}
@@ -12,11 +12,6 @@ encode_chunk-requires-clause-enough c =
     let left : length c.loop-done.waiting ≡ length c.args.waiting.now - c.loop-done.done = ap length c.loop-done.invariant.encoded.left ∙ length-drop c.loop-done.done c.args.waiting.now in
     omega (arith, left, c.requires.enough)
 
-pub encode_byte-requires-clause-enough : goal.encode_byte-requires-clause-enough
-encode_byte-requires-clause-enough c =
-    let left : length c.loop-done.waiting ≡ length c.args.waiting.now - c.loop-done.done = ap length c.loop-done.invariant.encoded.left ∙ length-drop c.loop-done.done c.args.waiting.now in
-    omega (arith, left, c.requires.enough)
-
 pub encode_bit-requires-clause-enough : goal.encode_bit-requires-clause-enough
 encode_bit-requires-clause-enough c =
     let left : length c.loop-done.waiting ≡ length c.args.waiting.now - c.loop-done.done = ap length c.loop-done.invariant.encoded.left ∙ length-drop c.loop-done.done c.args.waiting.now in
@@ -24,12 +19,7 @@ encode_bit-requires-clause-enough c =
 
 pub loop-done-preserved-then-count-done-ge8 : goal.loop-done-preserved-then-count-done-ge8
 loop-done-preserved-then-count-done-ge8 c =
-    let few : c.loop-done.done + 8 ≤ c.args.count = omega (arith, c.if-count-done-ge8.true, c.loop-done-test.true) in
-    record { encoded = c.encode_byte.ensures.goes c.args.waiting.now c.args.encoder.now c.args.to.now c.args.count few c.loop-done.invariant.encoded; few = few }
-
-pub loop-done-preserved-then-count-done-ge512 : goal.loop-done-preserved-then-count-done-ge512
-loop-done-preserved-then-count-done-ge512 c =
-    let few : c.loop-done.done + 512 ≤ c.args.count = omega (arith, c.if-count-done-ge512.true, c.loop-done-test.true) in
+    let few : c.loop-done.done + 8 * c.min-number.result ≤ c.args.count = omega (arith, c.if-count-done-ge8.true, c.loop-done-test.true, c.min-number.ensures) in
     record { encoded = c.encode_chunk.ensures.goes c.args.waiting.now c.args.encoder.now c.args.to.now c.args.count few c.loop-done.invariant.encoded; few = few }
 
 pub loop-done-preserved : goal.loop-done-preserved

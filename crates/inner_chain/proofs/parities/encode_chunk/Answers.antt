@@ -1,12 +1,12 @@
-use Rattle.std.proofs.Common.{◌≡◌, ◌+◌, ◌*◌, ℕ, Bool, List, length, subst, arith}
+use Rattle.std.proofs.Common.{◌≡◌, ◌+◌, ◌*◌, ◌≤◌, ℕ, Bool, List, length, replicate, subst, take}
+use Rattle.std.proofs.lemmas.List.{length-take-le}
 use Rattle.inner_chain.specs.Tables.{IsEncoded}
 use Rattle.inner_chain.proofs.parities.encode_chunk.Goals as goal
 
 pub returns : goal.returns
-returns c = record {
-  goes = λ w e x n few s.
-      let steps : c.args.done + 8 * length c.take_bytes.new.to ≡ c.args.done + 512 = omega (arith, c.take_bytes.ensures.size) in
-      subst (λ (z : ℕ). IsEncoded w e x c.args.first n z c.take_bytes.new.self c.encode_bytes.new.encoder c.encode_bytes.new.to) steps
-      (c.encode_bytes.ensures.goes w e x c.take_bytes.new.self n (omega (arith, few, steps))
-      (subst (λ (z : List Bool). IsEncoded w e x c.args.first n c.args.done z c.args.encoder.now c.args.to.now) c.take_bytes.ensures.taken s));
-}
+returns c =
+    let size : length (take c.args.number (replicate 64 0)) ≡ c.args.number = length-take-le c.args.number (replicate 64 0) c.requires.few in
+    subst (λ (k : ℕ). record {
+      goes : (w e x : List Bool) (n : ℕ) → c.args.done + 8 * k ≤ n → IsEncoded w e x c.args.first n c.args.done c.args.waiting.now c.args.encoder.now c.args.to.now
+          → IsEncoded w e x c.args.first n (c.args.done + 8 * k) c.encode_part.new.waiting c.encode_part.new.encoder c.encode_part.new.to;
+    }) size (record { goes = c.encode_part.ensures.goes })
