@@ -14,8 +14,8 @@ use crate::word_order::order_words;
 use conv_code::CostPair;
 use std::simd::u16x16;
 
-/// The step over all states in a phase: the new costs, and a bit for each state that the even way leads to, in the order
-/// of the phase.
+/// The step over all states in a phase: the new costs, and a bit for each state that the even way leads to, in the
+/// order of the phase.
 #[inline(always)]
 fn step_in(phase: usize, old: Lanes, sums: u16x16) -> (Lanes, u64)
     requires phase { phase < 6 }

@@ -238,21 +238,21 @@ impl<A: Acs, V: Survivors<L>, const L: usize> Decoder<A, V, L> {
         words: &mut [u64],
         to: &mut WaitBuf,
     ) -> (usize, Option<Unmerged>)
-        requires going { self.old.ended ≡ false }
         requires some { 0 < length pairs.now }
         requires space { 0 < length words.old }
-        requires room { length to.old + L < 36864 }
+        requires going { self.old.ended ≡ false }
         requires steps { self.old.steps < 2 ^ 62 }
+        requires room { length to.old + L < 36864 }
+        ensures space { length words.new ≡ length words.old }
+        ensures some { 0 < result.0 }
+        ensures within { result.0 ≤ length pairs.now }
+        ensures going { self.new.ended ≡ false }
+        ensures steps { self.new.steps ≡ self.old.steps + result.0 }
+        ensures few { self.new.waiting ≤ L }
+        ensures amount { length to.new + self.new.waiting ≡ length to.old + self.old.waiting + result.0 }
+        ensures spaced { self.new.waiting + (L + 1) * length (option_to_list result.1) ≤ self.old.waiting + result.0 }
         ensures ran { (a : Option (List Bool)) (c : List CostPair) (g : List Bool) → Stands L self.old a c g
             → Ran L self.new a c g (take result.0 pairs.now) to.old to.new (option_to_list (at_of result.1)) }
-        ensures spaced { self.new.waiting + (L + 1) * length (option_to_list result.1) ≤ self.old.waiting + result.0 }
-        ensures amount { length to.new + self.new.waiting ≡ length to.old + self.old.waiting + result.0 }
-        ensures few { self.new.waiting ≤ L }
-        ensures steps { self.new.steps ≡ self.old.steps + result.0 }
-        ensures going { self.new.ended ≡ false }
-        ensures within { result.0 ≤ length pairs.now }
-        ensures some { 0 < result.0 }
-        ensures space { length words.new ≡ length words.old }
     {
         if self.metric.alive() != u64::MAX {
             return (1, self.step(pairs[0], to));
