@@ -13,6 +13,8 @@ mod arithmetic;
 #[cfg(test)]
 mod both_bodies;
 #[cfg(test)]
+mod both_gains;
+#[cfg(test)]
 mod conversions;
 #[cfg(test)]
 mod corrected_cells;
