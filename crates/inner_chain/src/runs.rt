@@ -98,13 +98,11 @@ fn write_run(
     ensures long { length to.new ≡ length to.old }
 {
     for word in 0..RUN_WORDS {
-        let of_x = costs[x + word];
-        let of_y = costs[y + word];
         to[first + word * steps] = CostPair {
-            x0: of_x.0,
-            x1: of_x.1,
-            y0: of_y.0,
-            y1: of_y.1,
+            x0: costs[x + word].0,
+            x1: costs[x + word].1,
+            y0: costs[y + word].0,
+            y1: costs[y + word].1,
         };
     }
 }
