@@ -5,8 +5,7 @@ ghost use Rattle.mode_set.specs.StreamTable.{steps_in_period};
 ghost use Rattle.puncture.specs.Steps.{bits_sent, bits_of_steps, has_x, has_y};
 
 use crate::Sent;
-use crate::puncturer::next_place;
-use crate::rule::sent_in_place;
+use crate::rule::{next_place, sent_in_place};
 use mode_set::Rate;
 
 // Bit `place` of a number, bit 0 being the lowest.

@@ -2,20 +2,18 @@
 #![tactic(auto)]
 
 mod coder;
-mod depuncturer;
 mod eight_steps;
 mod laws;
 mod periods;
-mod puncturer;
+mod plain;
 mod rule;
 mod table;
 
 pub use coder::PuncturedEncoder;
-pub use depuncturer::Depuncturer;
 pub use laws::{
     bytes_are_paths, lists_are_paths, periods_shift, sent_bits_are_runs, sent_bits_have_steps,
     steps_are_numbered, steps_send_in_order,
 };
-pub use puncturer::Puncturer;
+pub use plain::{Depuncturer, Puncturer};
 pub use rule::sent;
 pub use table::Sent;

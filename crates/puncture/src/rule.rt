@@ -1,5 +1,5 @@
 // The rule of the five rates.
-ghost use Rattle.std.specs.Prelude.{◌≡◌, ◌<◌};
+ghost use Rattle.std.specs.Prelude.{◌≡◌, ◌+◌, ◌<◌, ◌%◌, ℕ};
 ghost use Rattle.mode_set.specs.StreamTable.{steps_in_period};
 ghost use Rattle.puncture.specs.SentBits.{X, Y};
 ghost use Rattle.puncture.specs.Steps.{is_sent, has_x, has_y};
@@ -34,6 +34,19 @@ pub(crate) fn sent_in_place(rate: Rate, place: u8) -> Sent
             1 | 2 | 3 | 5 => Sent::OnlyY,
             _ => Sent::OnlyX,
         },
+    }
+}
+
+// The place in the period after a step.
+pub(crate) fn next_place(rate: Rate, place: u8) -> u8
+    requires { place < steps_in_period rate }
+    ensures within { result < steps_in_period rate }
+    ensures next { (t : ℕ) → place ≡ t % steps_in_period rate → result ≡ (t + 1) % steps_in_period rate }
+{
+    if place + 1 < rate.steps_in_period() {
+        place + 1
+    } else {
+        0
     }
 }
 

@@ -4,7 +4,7 @@ use Rattle.puncture.specs.SentBits.{X, Y, sent_bits}
 use Rattle.puncture.specs.Steps.{is_sent, has_x, has_y, Place, sent_before}
 use Rattle.puncture.proofs.Pushed.{pushed}
 use Rattle.puncture.proofs.Runs.{joined, step_grows}
-use Rattle.puncture.proofs.puncturer.Puncturer.push.Goals as goal
+use Rattle.puncture.proofs.plain.Puncturer.push.Goals as goal
 
 pub returns-clause-sent : goal.returns-clause-sent
 returns-clause-sent g c = λ r path t at x y.

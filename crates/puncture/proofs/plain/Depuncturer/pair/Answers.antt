@@ -3,7 +3,7 @@ use Rattle.std.proofs.Common.{ap, ◌∙◌}
 use Rattle.puncture.specs.SentBits.{X, Y}
 use Rattle.puncture.specs.Steps.{is_sent, has_x, has_y, Place}
 use Rattle.puncture.proofs.Costs.{x_costs, y_costs}
-use Rattle.puncture.proofs.depuncturer.Depuncturer.pair.Goals as goal
+use Rattle.puncture.proofs.plain.Depuncturer.pair.Goals as goal
 
 pub returns-clause-numbered : goal.returns-clause-numbered
 returns-clause-numbered c = λ r costs t at e f.
