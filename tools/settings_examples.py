@@ -7,7 +7,7 @@ repository after a change of an example; with --check it only says whether the t
 import pathlib
 import sys
 
-TARGET = pathlib.Path("crates/test_station/src/examples.rt")
+TARGET = pathlib.Path("crates/test_station/src/tests/examples.rt")
 
 
 def generated():

@@ -7,22 +7,4 @@
 #![tactic(auto)]
 
 #[cfg(test)]
-mod cells;
-#[cfg(test)]
-mod coded;
-#[cfg(test)]
-mod dispersed;
-#[cfg(test)]
-mod drawn;
-#[cfg(test)]
-mod modulated;
-#[cfg(test)]
-mod planned;
-#[cfg(test)]
-mod punctured;
-#[cfg(test)]
-mod received;
-#[cfg(test)]
-mod returned;
-#[cfg(test)]
-mod trials;
+mod tests;

@@ -5,28 +5,4 @@
 #![tactic(auto)]
 
 #[cfg(test)]
-mod align_refused;
-#[cfg(test)]
-mod aligned;
-#[cfg(test)]
-mod arithmetic;
-#[cfg(test)]
-mod both_bodies;
-#[cfg(test)]
-mod both_gains;
-#[cfg(test)]
-mod conversions;
-#[cfg(test)]
-mod corrected_cells;
-#[cfg(test)]
-mod equalised;
-#[cfg(test)]
-mod track_refused;
-#[cfg(test)]
-mod tracked;
-#[cfg(test)]
-mod trackers;
-#[cfg(test)]
-mod tracking_files;
-#[cfg(test)]
-mod upgraded;
+mod tests;

@@ -6,22 +6,4 @@
 #![tactic(auto)]
 
 #[cfg(test)]
-mod cases;
-#[cfg(test)]
-mod cells;
-#[cfg(test)]
-mod flushed;
-#[cfg(test)]
-mod gated_pieces;
-#[cfg(test)]
-mod gated_receivers;
-#[cfg(test)]
-mod gated_words;
-#[cfg(test)]
-mod hostile_received;
-#[cfg(test)]
-mod received;
-#[cfg(test)]
-mod sent;
-#[cfg(test)]
-mod works;
+mod tests;

@@ -5,18 +5,4 @@
 #![tactic(auto)]
 
 #[cfg(test)]
-mod changing;
-#[cfg(test)]
-mod measure_refused;
-#[cfg(test)]
-mod measure_running;
-#[cfg(test)]
-mod measured;
-#[cfg(test)]
-mod measured_pieces;
-#[cfg(test)]
-mod measured_plans;
-#[cfg(test)]
-mod rescued;
-#[cfg(test)]
-mod tuned;
+mod tests;

@@ -5,22 +5,4 @@
 #![tactic(auto)]
 
 #[cfg(test)]
-mod calls;
-#[cfg(test)]
-mod examples;
-#[cfg(test)]
-mod files;
-#[cfg(test)]
-mod memory;
-#[cfg(test)]
-mod plan_documents;
-#[cfg(test)]
-mod plans;
-#[cfg(test)]
-mod settings;
-#[cfg(test)]
-mod settings_answers;
-#[cfg(test)]
-mod settings_documents;
-#[cfg(test)]
-mod watched;
+mod tests;

@@ -1,0 +1,15 @@
+mod decoders;
+mod decoding;
+mod elements;
+mod encoding;
+mod erasures;
+mod forced;
+mod interleavers;
+mod lying_pairs;
+mod margins;
+mod packets;
+mod paths;
+mod rescued_words;
+mod short_runs;
+mod streams;
+mod words;

@@ -1,0 +1,10 @@
+mod cells;
+mod coded;
+mod dispersed;
+mod drawn;
+mod modulated;
+mod planned;
+mod punctured;
+mod received;
+mod returned;
+mod trials;

@@ -1,0 +1,13 @@
+mod align_refused;
+mod aligned;
+mod arithmetic;
+mod both_bodies;
+mod both_gains;
+mod conversions;
+mod corrected_cells;
+mod equalised;
+mod track_refused;
+mod tracked;
+mod trackers;
+mod tracking_files;
+mod upgraded;

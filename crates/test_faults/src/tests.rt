@@ -1,0 +1,10 @@
+mod cases;
+mod cells;
+mod flushed;
+mod gated_pieces;
+mod gated_receivers;
+mod gated_words;
+mod hostile_received;
+mod received;
+mod sent;
+mod works;

@@ -1,0 +1,10 @@
+mod calls;
+mod examples;
+mod files;
+mod memory;
+mod plan_documents;
+mod plans;
+mod settings;
+mod settings_answers;
+mod settings_documents;
+mod watched;
