@@ -2,3 +2,4 @@ pub mod Cells
 mod Indices
 pub mod Parts
 pub mod ReadBack
+mod Reading

@@ -11,6 +11,8 @@ mod cell_file;
 mod cell_table;
 mod five_bytes;
 mod laws;
+pub mod plain;
+mod read_cells;
 mod symbol_in;
 mod symbol_out;
 

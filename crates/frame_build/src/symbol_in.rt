@@ -1,46 +1,13 @@
 // From bytes that were cut anywhere to the cells of symbols and their weights.
 ghost use Rattle.std.specs.Prelude.{◌≡◌, ℕ, ◌+◌, ◌*◌, ◌≢◌, ◌<◌, ◌≤◌, ◌++◌, ◌↔◌, [], ◌-◌, min, take, length};
 ghost use Rattle.std.specs.Prelude.{slice_index, IfOk, IsTrue};
-ghost use Rattle.frame_build.specs.Symbol.{cell_from, cells_from, weight_from, weights_from};
+ghost use Rattle.frame_build.specs.Symbol.{cells_from, weights_from};
 
-use byteorder::{BigEndian, ByteOrder};
+use crate::read_cells::read_symbol;
 use mode_set::Carriers;
 use qam_map::Cell;
 use std::alloc::{AllocError, Global};
 use std::marker::{Model, PhantomData};
-
-// The cell in the first four of five bytes.
-fn read_cell(bytes: &[u8], k: usize) -> Cell
-    requires { 5 * k + 5 ≤ length bytes.now }
-    ensures { result ≡ cell_from bytes.now k }
-{
-    Cell {
-        re: BigEndian::read_i16(&bytes[5 * k..]),
-        im: BigEndian::read_i16(&bytes[5 * k + 2..]),
-    }
-}
-
-// The weight in the fifth of them.
-#[tactic(auto, unfolding(crate::specs::Symbol::weight_from))]
-fn read_weight(bytes: &[u8], k: usize) -> u8
-    requires { 5 * k + 5 ≤ length bytes.now }
-    ensures { result ≡ weight_from bytes.now k }
-{
-    bytes[5 * k + 4].min(15)
-}
-
-// The cells of all carriers and their weights, in one pass.
-fn read_symbol(bytes: &[u8], cells: &mut [Cell], weights: &mut [u8])
-    requires bytes { length bytes.now ≡ 5 * length cells.old }
-    requires weights { length weights.old ≡ length cells.old }
-    ensures cells { cells.new ≡ cells_from bytes.now (length cells.old) }
-    ensures weights { weights.new ≡ weights_from bytes.now (length cells.old) }
-{
-    for k in 0..cells.len() {
-        cells[k] = read_cell(bytes, k);
-        weights[k] = read_weight(bytes, k);
-    }
-}
 
 /// Takes bytes, cut anywhere, as the cells of symbol after symbol and their weights: five bytes a cell,
 /// the weight last.

@@ -6,7 +6,7 @@ use Rattle.byteorder.specs.Endian.{big_number}
 use Rattle.std.proofs.lemmas.Int.{ints, to_z-of_z}
 use Rattle.qam_map.specs.declared.cell.Cell.{Cell}
 use Rattle.frame_build.specs.Symbol.{cell_from}
-use Rattle.frame_build.proofs.symbol_in.read_cell.Goals as goal
+use Rattle.frame_build.proofs.plain.read_cell.Goals as goal
 
 made : ℤ → ℤ → Cell
 made re im = record { re = re; im = im }
