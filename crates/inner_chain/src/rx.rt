@@ -1,16 +1,14 @@
 // From the cells of a symbol to the cost pairs of a stream.
-ghost use Rattle.std.specs.Prelude.{◌≡◌, ◌+◌, ◌<◌, ◌≤◌, IfOk, IsTrue, length, vec_capacity, vec_len};
+ghost use Rattle.std.specs.Prelude.{◌≡◌, ◌<◌, ◌≤◌, IfOk, length};
 ghost use Rattle.mode_set.specs.Entries.{with_entry};
-ghost use Rattle.mode_set.specs.StreamTable.{carriers, has_stream, need};
+ghost use Rattle.mode_set.specs.StreamTable.{carriers, need};
 ghost use Rattle.mode_set.specs.declared.modes.Stream.TheVariants.{Hp, Lp};
-ghost use Rattle.inner_chain.specs.CostPairs.{AppendsPairs};
 ghost use Rattle.inner_chain.specs.CostTables.{AreWeights};
 ghost use Rattle.inner_chain.specs.PairLists.{BeginsWithPairs};
 
 use crate::cell_costs::CellCosts;
 use crate::cost_pairs::write_symbol;
 use crate::cost_tables::CostTables;
-use crate::plain::push_pairs;
 use conv_code::CostPair;
 use mode_set::{Carriers, Entry, Settings, Stream};
 use qam_map::Cell;
@@ -23,8 +21,8 @@ use symbol_interleave::Permutation;
 /// symbol.
 #[derive(Drop)]
 pub struct InnerRx<M: Carriers> {
-    tables: CostTables,
-    costs: CellCosts,
+    pub(crate) tables: CostTables,
+    pub(crate) costs: CellCosts,
     of: PhantomData<M>,
 }
 
@@ -59,36 +57,6 @@ impl<M: Carriers> InnerRx<M> {
         ensures { result ≡ need (with_entry self.now entry.now) stream }
     {
         self.tables.steps(entry, stream)
-    }
-
-    /// Appends the cost pairs of a stream in symbol `l` of a frame, one for each step in order: of
-    /// each sent bit the costs of its cell at its place by the cell's weight, and nothing for a bit
-    /// that is not sent. `entry` has the parameters of the symbol.
-    ///
-    /// `cells` are those of all carriers of the symbol, and `weights` theirs, each at most 15. `l` is below
-    /// 68, the stream exists in the symbol, and the spare of `to` has room for the pairs that `steps` tells.
-    pub fn pairs(
-        &mut self,
-        entry: &Entry,
-        cells: &[Cell],
-        weights: &[u8],
-        l: u8,
-        stream: Stream,
-        to: &mut Vec<CostPair>,
-    )
-        requires cells { length cells.now ≡ carriers self.old.mode }
-        requires weights { AreWeights self.old.mode weights.now }
-        requires symbol { l < 68 }
-        requires exists { IsTrue (has_stream entry.now.hierarchy stream) }
-        requires spare { vec_len to.old + need (with_entry self.old entry.now) stream ≤ vec_capacity to.old }
-        ensures pairs { AppendsPairs (with_entry self.old entry.now) cells.now weights.now l stream to.old.items
-            to.new.items }
-        ensures settings { self.new ≡ self.old }
-        ensures capacity { vec_capacity to.new ≡ vec_capacity to.old }
-    {
-        self.tables.turn_to(entry);
-        let settings = self.tables.settings();
-        push_pairs(&self.costs, &settings, cells, weights, l, stream, to);
     }
 
     /// Writes the cost pairs of both streams in symbol `l` of a frame, one for each step in order: those of

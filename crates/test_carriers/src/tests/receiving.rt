@@ -4,7 +4,7 @@ ghost use Rattle.std.specs.Prelude.{◌≡◌, ◌*◌, length};
 use super::parameters::{RATES, two_streams};
 use super::sending::{drawn_bytes, first_symbols};
 use conv_code::{CostPair, Encoder};
-use frame_build::SymbolIn;
+use frame_build::{SymbolIn, plain};
 use inner_chain::InnerRx;
 use mode_set::{Carriers, Hierarchy, Mode, Mode2k, Mode8k, Rate, Settings, Shape, Stream};
 use outer_chain::OuterTx;
@@ -342,6 +342,29 @@ fn drawn_symbols(rt: &impl Abort, alloc: Global, mode: Mode) -> Vec<Vec<u8>> {
         symbols.push(bytes).expect(rt, "memory");
     }
     symbols
+}
+
+// The cells of a symbol and their weights are those that are read one by one.
+fn read_twice<M: Carriers>(rt: &impl Abort, alloc: Global, bytes: &[u8]) {
+    let mut symbol = SymbolIn::<M>::new(alloc).expect(rt, "memory");
+    take_in_pieces(rt, &mut symbol, bytes, 1880);
+    let mut cells = vec![in alloc; Cell { re: 0, im: 0 }; M::K as usize].expect(rt, "memory");
+    let mut weights = vec![in alloc; 0u8; M::K as usize].expect(rt, "memory");
+    assert!(rt; bytes.len() == 5 * cells.len());
+    plain::read_symbol(bytes, &mut cells, &mut weights);
+    assert!(rt; symbol.cells() == cells.as_slice());
+    assert!(rt; symbol.weights() == weights.as_slice());
+}
+
+#[test]
+fn cells_six_at_a_time(rt: HostRuntime) {
+    let alloc = rt.alloc();
+    for bytes in drawn_symbols(&rt, alloc, Mode::M2k) {
+        read_twice::<Mode2k>(&rt, alloc, &bytes);
+    }
+    for bytes in drawn_symbols(&rt, alloc, Mode::M8k) {
+        read_twice::<Mode8k>(&rt, alloc, &bytes);
+    }
 }
 
 // The same costs from one receiving side whose parameters change from symbol to symbol.
