@@ -1,3 +1,4 @@
+use Rattle.std.proofs.Common.{arith}
 use Rattle.acs_lanes.proofs.Turns.{add_fits, a_few, b_few, c_few, d_few, both_marks}
 use Rattle.acs_lanes.proofs.PhaseTurns.{word_step_in}
 use Rattle.acs_lanes.proofs.six.step_in.Goals as goal
@@ -59,4 +60,5 @@ returns c =
           word_step_in c.args.phase c.requires.phase pair c.args.old.a c.args.old.b c.args.old.c c.args.old.d _ _ _ _ _ _ _ _ _ _ _ _ _ _ o s c.turned_in.ensures c.pick.ensures c.pick-3.ensures c.pick-2.ensures c.pick-4.ensures
           (c.word_in.ensures.low _ (both_marks _ _ _ _ _ _ _ _ _ _ _ _ o.a_len o.c_len s.zero_first_len s.one_first_len c.pick.ensures c.pick-3.ensures))
           (c.word_in.ensures.high _ (both_marks _ _ _ _ _ _ _ _ _ _ _ _ o.a_len o.c_len s.one_first_len s.zero_first_len c.pick-2.ensures c.pick-4.ensures));
+      low = λ t k l. omega (arith, c.turned_in.ensures.low k (omega (arith, l)), c.may_be_high.ensures t k l);
     }
