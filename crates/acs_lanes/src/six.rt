@@ -9,7 +9,7 @@ ghost use Rattle.acs_lanes.specs.Phases.{IsWordStep, all_sums, in_order, laid_in
 
 use crate::cost_sums::{sums_in, write_sums};
 use crate::lanes16::{Lanes, higher, lowered_if, reaches};
-use crate::phases::{costs_in, turned_in, word_in};
+use crate::phases::{costs_in, half_marks, turned_in, word_in};
 use crate::step16::pick;
 use crate::word_order::order_words;
 use conv_code::CostPair;
@@ -31,6 +31,7 @@ fn may_be_high(phase: usize, low_first: u16x16, low_last: u16x16) -> bool
 
 /// The step over all states in a phase: the new costs, a bit for each state that the even way leads to, in the order of
 /// the phase, and whether one of the new costs of the states below 16 may be at least 32,768.
+// The marks of the states below 32 become bits before those of the others are made: then 128-bit registers suffice.
 #[inline(always)]
 fn step_in(phase: usize, old: Lanes, sums: u16x16) -> (Lanes, u64, bool)
     requires phase { phase < 6 }
@@ -43,18 +44,14 @@ fn step_in(phase: usize, old: Lanes, sums: u16x16) -> (Lanes, u64, bool)
 {
     let (zero_first, one_first, zero_last, one_last) = costs_in(phase, sums);
     let (low_first, low_first_even) = pick(old.a, zero_first, old.c, one_first);
-    let (high_first, high_first_even) = pick(old.a, one_first, old.c, zero_first);
     let (low_last, low_last_even) = pick(old.b, zero_last, old.d, one_last);
+    let low_even = half_marks(phase, low_first_even, low_last_even);
+    let (high_first, high_first_even) = pick(old.a, one_first, old.c, zero_first);
     let (high_last, high_last_even) = pick(old.b, one_last, old.d, zero_last);
+    let high_even = half_marks(phase, high_first_even, high_last_even);
     (
         turned_in(phase, low_first, low_last, high_first, high_last),
-        word_in(
-            phase,
-            low_first_even,
-            low_last_even,
-            high_first_even,
-            high_last_even,
-        ),
+        word_in(phase, low_even, high_even),
         may_be_high(phase, low_first, low_last),
     )
 }
