@@ -228,8 +228,9 @@ fn less_by_least(lanes: Lanes) -> Lanes
     less_by(lanes, least(lanes))
 }
 
-/// The lanes made such that the costs of two steps may be added. If that may not be so yet, the caller says so.
-// The least is taken from each, which leaves 49,140 at most, since they are that close; and 65,535 - 2 * 8,190 = 49,155.
+/// The lanes made such that the costs of two steps may be added. `high` is false if that is so already.
+// The least is taken from each, which leaves 49,140 at most, since they are that close; and 65,535 - 2 * 8,190 is
+// 49,155.
 #[inline(always)]
 pub(crate) fn lowered_if(high: bool, lanes: Lanes) -> Lanes
     requires close { AreClose (joined lanes.a lanes.b lanes.c lanes.d) }
