@@ -18,3 +18,4 @@ pub mod PhaseCosts
 pub mod PhaseTurns
 pub mod Rows16
 pub mod Orders
+pub mod Looks

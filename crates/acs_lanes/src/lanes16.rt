@@ -126,7 +126,7 @@ pub(crate) fn widen(lanes: Lanes, cost: &mut [u32; 64])
 
 /// The higher one of each two lanes.
 #[inline(always)]
-fn higher(x: u16x16, y: u16x16) -> u16x16
+pub(crate) fn higher(x: u16x16, y: u16x16) -> u16x16
     requires x { length x ≡ 16 }
     requires y { length y ≡ 16 }
     ensures long { length result ≡ 16 }
@@ -138,7 +138,7 @@ fn higher(x: u16x16, y: u16x16) -> u16x16
 /// Is some lane at least 32,768?
 // That is its highest bit, which takes one instruction.
 #[inline(always)]
-fn reaches(lanes: u16x16) -> bool
+pub(crate) fn reaches(lanes: u16x16) -> bool
     requires { length lanes ≡ 16 }
     ensures low { IsFalse result → (k : ℕ) → k < 16 → slice_index lanes k < 32768 }
 {
@@ -228,17 +228,23 @@ fn less_by_least(lanes: Lanes) -> Lanes
     less_by(lanes, least(lanes))
 }
 
-/// The lanes made such that the costs of two steps may be added.
-// If one is at least 32,768 the least is taken from each, which leaves 49,140 at most, since they are that close; and
-// 65,535 - 2 * 8,190 = 49,155.
+/// The lanes made such that the costs of two steps may be added. `high` is false if that is so already.
+// The least is taken from each, which leaves 49,140 at most, since they are that close; and 65,535 - 2 * 8,190 is
+// 49,155.
+#[inline(always)]
+pub(crate) fn lowered_if(high: bool, lanes: Lanes) -> Lanes
+    requires close { AreClose (joined lanes.a lanes.b lanes.c lanes.d) }
+    requires room { IsFalse high → (n : ℕ) → n < 64 → slice_index (joined lanes.a lanes.b lanes.c lanes.d) n ≤ 49155 }
+    ensures { AreRoomy (joined lanes.a lanes.b lanes.c lanes.d) (joined result.a result.b result.c result.d) }
+{
+    if high { less_by_least(lanes) } else { lanes }
+}
+
+/// The same, where the lanes say themselves whether one of them is at least 32,768.
 #[inline(always)]
 pub(crate) fn lowered(lanes: Lanes) -> Lanes
     requires { AreClose (joined lanes.a lanes.b lanes.c lanes.d) }
     ensures { AreRoomy (joined lanes.a lanes.b lanes.c lanes.d) (joined result.a result.b result.c result.d) }
 {
-    if is_high(lanes) {
-        less_by_least(lanes)
-    } else {
-        lanes
-    }
+    lowered_if(is_high(lanes), lanes)
 }

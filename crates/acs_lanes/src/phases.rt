@@ -105,7 +105,7 @@ fn by_halves(first: u8x16, last: u8x16) -> u8x32
 
 /// The word of the lanes of two vectors that have a mark.
 #[inline(always)]
-fn half_marks(phase: usize, first: u8x16, last: u8x16) -> u64
+pub(crate) fn half_marks(phase: usize, first: u8x16, last: u8x16) -> u64
     requires { phase < 6 }
     ensures small { result < 2 ^ 32 }
     ensures bits { (is_odd : ℕ → Bool) → AreMarks first last is_odd → (k : ℕ) → k < 32 → is_set result k
@@ -128,20 +128,16 @@ pub(crate) fn half_word(first: u8x16, last: u8x16) -> u64
 /// are put in the order of states.
 // It is turned over when they are, four words at once.
 #[inline(always)]
-pub(crate) fn word_in(
-    phase: usize,
-    low_first: u8x16,
-    low_last: u8x16,
-    high_first: u8x16,
-    high_last: u8x16,
-) -> u64
-    requires { phase < 6 }
-    ensures low { (is_odd : ℕ → Bool) → AreMarks low_first low_last is_odd → (k : ℕ) → k < 32
-        → is_set (in_order phase result) k ≡ is_odd (way_in phase k) }
-    ensures high { (is_odd : ℕ → Bool) → AreMarks high_first high_last is_odd → (k : ℕ) → k < 32
-        → is_set (in_order phase result) (k + 32) ≡ is_odd (way_in phase k) }
+pub(crate) fn word_in(phase: usize, low: u64, high: u64) -> u64
+    requires phase { phase < 6 }
+    requires small { low < 2 ^ 32 }
+    ensures low { (is_odd : ℕ → Bool) → ((k : ℕ) → k < 32 → is_set low k ≡ not (is_odd (way_in phase
+        (exchanged phase k)))) → (k : ℕ) → k < 32 → is_set (in_order phase result) k ≡ is_odd (way_in phase k) }
+    ensures high { (is_odd : ℕ → Bool) → ((k : ℕ) → k < 32 → is_set high k ≡ not (is_odd (way_in phase
+        (exchanged phase k)))) → (k : ℕ) → k < 32 → is_set (in_order phase result) (k + 32)
+        ≡ is_odd (way_in phase k) }
 {
-    half_marks(phase, low_first, low_last) | half_marks(phase, high_first, high_last) << 32
+    low | high << 32
 }
 
 /// The lower four of each eight lanes of two vectors in turn, and the upper four.

@@ -9,6 +9,7 @@ mod branch;
 mod decoder;
 mod held;
 mod metric;
+mod plain;
 
 pub use branch::Branch;
 pub use decoder::{Decoder, StartState, Unmerged};

@@ -5,10 +5,10 @@
 #![tactic(auto)]
 
 mod bits;
-mod lists;
+mod plain;
 mod ring;
 mod survivors;
 
-pub use lists::ListSurvivors;
+pub use plain::ListSurvivors;
 pub use ring::{RingSurvivors, trace_follows};
 pub use survivors::Survivors;

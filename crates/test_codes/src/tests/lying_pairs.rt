@@ -1,5 +1,5 @@
 // A branch that loads the pairs of its symbols, and one that steps through them in place.
-ghost use Rattle.std.specs.Prelude.{◌≡◌, length};
+ghost use Rattle.std.specs.Prelude.{◌≡◌, ◌≤◌, [], false, length};
 
 use super::decoding::long_stream;
 use acs_lanes::LaneAcs;
@@ -29,6 +29,23 @@ fn are_alike<A: Acs, V: Survivors<2048>>(one: &mut Branch<A, V>, other: &mut Bra
     alike
 }
 
+/// Loads the pairs of a symbol: the first one by itself, and then the others at once.
+fn load<A: Acs, V: Survivors<2048>>(branch: &mut Branch<A, V>, pairs: &[CostPair])
+    requires going { branch.old.decoder.ended ≡ false }
+    requires empty { branch.old.loaded ≡ [] }
+    requires room { length pairs.now ≤ branch.old.most }
+    ensures loaded { length branch.new.loaded ≡ length pairs.now }
+    ensures decoder { branch.new.decoder ≡ branch.old.decoder }
+    ensures most { branch.new.most ≡ branch.old.most }
+    ensures wait { branch.new.wait ≡ branch.old.wait }
+{
+    if pairs.is_empty() {
+        return;
+    }
+    branch.load(pairs[0]);
+    branch.load_all(&pairs[1..]);
+}
+
 /// The number of reports of the symbols, and whether both branches are alike after each and at the end.
 fn run_both<A: Acs, V: Survivors<2048>>(
     rt: &impl Abort,
@@ -46,7 +63,7 @@ fn run_both<A: Acs, V: Survivors<2048>>(
     for end in ENDS {
         assert!(rt; from <= end && end <= 6000);
         assert!(rt; loading.waiting() < 8 && lending.waiting() < 8);
-        loading.load_all(&costs[from..end]);
+        load(&mut loading, &costs[from..end]);
         loading.run_symbol();
         lending.run_over(&costs[from..end]);
         reports = reports.saturating_add(lending.events().len());

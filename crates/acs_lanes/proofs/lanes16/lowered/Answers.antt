@@ -1,5 +1,5 @@
-use Rattle.acs_lanes.proofs.Highs.{roomy_same}
+use Rattle.std.proofs.Common.{arith}
 use Rattle.acs_lanes.proofs.lanes16.lowered.Goals as goal
 
-pub returns-else-is_high : goal.returns-else-is_high
-returns-else-is_high c = roomy_same _ (c.is_high.ensures.low c.if-is_high.false)
+pub lowered_if-requires-clause-room : goal.lowered_if-requires-clause-room
+lowered_if-requires-clause-room c = λ t n l. omega (arith, c.is_high.ensures.low t n l)

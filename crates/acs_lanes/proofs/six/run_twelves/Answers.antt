@@ -4,41 +4,41 @@ use Rattle.acs_lanes.specs.Phases.{in_order}
 use Rattle.acs_lanes.proofs.Rows16.{pair_at, row_at, two_more}
 use Rattle.acs_lanes.proofs.six.run_twelves.Goals as goal
 
-pub two_in-second-requires-clause-first : goal.two_in-second-requires-clause-first
-two_in-second-requires-clause-first c =
+pub two_in-second_high-requires-clause-first : goal.two_in-second_high-requires-clause-first
+two_in-second_high-requires-clause-first c =
     let k = c.loop-k.k in
     let x = pair_at c.args.pairs.now (6 * k) (omega (arith, c.loop-k-test.true)) in
     (x.pair, c.loop-k.invariant.sums (6 * k) (omega arith) (omega (arith, c.loop-k-test.true)) ∙ x.sums)
 
-pub two_in-second-requires-clause-last : goal.two_in-second-requires-clause-last
-two_in-second-requires-clause-last c =
+pub two_in-second_high-requires-clause-last : goal.two_in-second_high-requires-clause-last
+two_in-second_high-requires-clause-last c =
     let k = c.loop-k.k in
     let x = pair_at c.args.pairs.now (6 * k + 1) (omega (arith, c.loop-k-test.true)) in
     (x.pair, c.loop-k.invariant.sums (6 * k + 1) (omega arith) (omega (arith, c.loop-k-test.true)) ∙ x.sums)
 
-pub two_in-fourth-requires-clause-first : goal.two_in-fourth-requires-clause-first
-two_in-fourth-requires-clause-first c =
+pub two_in-fourth_high-requires-clause-first : goal.two_in-fourth_high-requires-clause-first
+two_in-fourth_high-requires-clause-first c =
     let k = c.loop-k.k in
     let x = pair_at c.args.pairs.now (6 * k + 2) (omega (arith, c.loop-k-test.true)) in
-    (x.pair, c.two_in-second.ensures.above (6 * k + 2) (omega arith) ∙ c.loop-k.invariant.sums (6 * k + 2) (omega arith) (omega (arith, c.loop-k-test.true)) ∙ x.sums)
+    (x.pair, c.two_in-second_high.ensures.above (6 * k + 2) (omega arith) ∙ c.loop-k.invariant.sums (6 * k + 2) (omega arith) (omega (arith, c.loop-k-test.true)) ∙ x.sums)
 
-pub two_in-fourth-requires-clause-last : goal.two_in-fourth-requires-clause-last
-two_in-fourth-requires-clause-last c =
+pub two_in-fourth_high-requires-clause-last : goal.two_in-fourth_high-requires-clause-last
+two_in-fourth_high-requires-clause-last c =
     let k = c.loop-k.k in
     let x = pair_at c.args.pairs.now (6 * k + 2 + 1) (omega (arith, c.loop-k-test.true)) in
-    (x.pair, c.two_in-second.ensures.above (6 * k + 2 + 1) (omega arith) ∙ c.loop-k.invariant.sums (6 * k + 2 + 1) (omega arith) (omega (arith, c.loop-k-test.true)) ∙ x.sums)
+    (x.pair, c.two_in-second_high.ensures.above (6 * k + 2 + 1) (omega arith) ∙ c.loop-k.invariant.sums (6 * k + 2 + 1) (omega arith) (omega (arith, c.loop-k-test.true)) ∙ x.sums)
 
-pub two_in-lanes-requires-clause-first : goal.two_in-lanes-requires-clause-first
-two_in-lanes-requires-clause-first c =
+pub two_in-requires-clause-first : goal.two_in-requires-clause-first
+two_in-requires-clause-first c =
     let k = c.loop-k.k in
     let x = pair_at c.args.pairs.now (6 * k + 4) (omega (arith, c.loop-k-test.true)) in
-    (x.pair, c.two_in-fourth.ensures.above (6 * k + 4) (omega arith) ∙ c.two_in-second.ensures.above (6 * k + 4) (omega arith) ∙ c.loop-k.invariant.sums (6 * k + 4) (omega arith) (omega (arith, c.loop-k-test.true)) ∙ x.sums)
+    (x.pair, c.two_in-fourth_high.ensures.above (6 * k + 4) (omega arith) ∙ c.two_in-second_high.ensures.above (6 * k + 4) (omega arith) ∙ c.loop-k.invariant.sums (6 * k + 4) (omega arith) (omega (arith, c.loop-k-test.true)) ∙ x.sums)
 
-pub two_in-lanes-requires-clause-last : goal.two_in-lanes-requires-clause-last
-two_in-lanes-requires-clause-last c =
+pub two_in-requires-clause-last : goal.two_in-requires-clause-last
+two_in-requires-clause-last c =
     let k = c.loop-k.k in
     let x = pair_at c.args.pairs.now (6 * k + 4 + 1) (omega (arith, c.loop-k-test.true)) in
-    (x.pair, c.two_in-fourth.ensures.above (6 * k + 4 + 1) (omega arith) ∙ c.two_in-second.ensures.above (6 * k + 4 + 1) (omega arith) ∙ c.loop-k.invariant.sums (6 * k + 4 + 1) (omega arith) (omega (arith, c.loop-k-test.true)) ∙ x.sums)
+    (x.pair, c.two_in-fourth_high.ensures.above (6 * k + 4 + 1) (omega arith) ∙ c.two_in-second_high.ensures.above (6 * k + 4 + 1) (omega arith) ∙ c.loop-k.invariant.sums (6 * k + 4 + 1) (omega arith) (omega (arith, c.loop-k-test.true)) ∙ x.sums)
 
 pub loop-k-preserved : goal.loop-k-preserved
 loop-k-preserved c =
@@ -46,9 +46,9 @@ loop-k-preserved c =
     let p = c.args.pairs.now in
     let t = c.loop-k-test.true in
     let v = c.loop-k.invariant in
-    let e2 = c.two_in-second.ensures in
-    let e4 = c.two_in-fourth.ensures in
-    let e6 = c.two_in-lanes.ensures in
+    let e2 = c.two_in-second_high.ensures in
+    let e4 = c.two_in-fourth_high.ensures in
+    let e6 = c.two_in.ensures in
     let x0 = pair_at p (6 * k) (omega (arith, t)) in
     let x1 = pair_at p (6 * k + 1) (omega (arith, t)) in
     let x2 = pair_at p (6 * k + 2) (omega (arith, t)) in
@@ -59,10 +59,11 @@ loop-k-preserved c =
       few = omega (arith, t);
       long = e6.room ∙ e4.room ∙ e2.room ∙ v.long;
       spread = e6.spread;
+      low = e6.low;
       sums = λ i m l. e6.above i (omega (arith, m)) ∙ e4.above i (omega (arith, m)) ∙ e2.above i (omega (arith, m)) ∙ v.sums i (omega (arith, m)) l;
       steps = λ words n same.
           let h0 = v.steps words n (λ i m. same i (omega (arith, m)) ∙ ap (in_order (i % 6)) (e6.below i (omega (arith, m)) ∙ e4.below i (omega (arith, m)) ∙ e2.below i m)) in
-          let at : (i p : ℕ) → i < 6 * (k + 1) → i % 6 ≡ p → slice_index words i ≡ in_order p (slice_index c.two_in-lanes.new.words i) = λ i p m e. same i m ∙ ap (λ q. in_order q (slice_index c.two_in-lanes.new.words i)) e in
+          let at : (i p : ℕ) → i < 6 * (k + 1) → i % 6 ≡ p → slice_index words i ≡ in_order p (slice_index c.two_in.new.words i) = λ i p m e. same i m ∙ ap (λ q. in_order q (slice_index c.two_in.new.words i)) e in
           let h2 =
           two_more _ p (6 * k) x0 x1 _ _ words _ _ (omega (arith, t)) n (at (6 * k) 0 (omega arith) (omega arith) ∙ ap (in_order 0) (e6.below (6 * k) (omega arith) ∙ e4.below (6 * k) (omega arith)))
           (at (6 * k + 1) 1 (omega arith) (omega arith) ∙ ap (in_order 1) (e6.below (6 * k + 1) (omega arith) ∙ e4.below (6 * k + 1) (omega arith)))

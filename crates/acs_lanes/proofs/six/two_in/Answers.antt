@@ -1,12 +1,16 @@
 use Rattle.std.proofs.Common.{◌∙◌, ◌+◌, ◌<◌, arith, length-set}
+use Rattle.acs_lanes.proofs.Looks.{near_room}
 use Rattle.acs_lanes.proofs.PhaseTables.{close_in}
 use Rattle.acs_lanes.proofs.PhaseTurns.{first_step, grown_in, second_step}
 use Rattle.acs_lanes.proofs.Rows16.{above_written, below_written, next_read, two_steps}
 use Rattle.acs_plain.proofs.Spread.{spread_step}
 use Rattle.acs_lanes.proofs.six.two_in.Goals as goal
 
-pub lowered-requires : goal.lowered-requires
-lowered-requires c = let f = c.args.from in close_in c.args.phase (omega (arith, c.requires.phase)) f.a f.b f.c f.d c.requires.spread
+pub lowered_if-requires-clause-close : goal.lowered_if-requires-clause-close
+lowered_if-requires-clause-close c = let f = c.args.from in close_in c.args.phase (omega (arith, c.requires.phase)) f.a f.b f.c f.d c.requires.spread
+
+pub lowered_if-requires-clause-room : goal.lowered_if-requires-clause-room
+lowered_if-requires-clause-room c = λ t. let f = c.args.from in near_room c.args.phase (omega (arith, c.requires.phase)) f.a f.b f.c f.d c.requires.spread (c.requires.low t)
 
 pub step_in-first_word-requires-clause-sums : goal.step_in-first_word-requires-clause-sums
 step_in-first_word-requires-clause-sums c = let x = c.requires.first in (x.0, c.sums_in.ensures x.0 x.1)
@@ -14,9 +18,9 @@ step_in-first_word-requires-clause-sums c = let x = c.requires.first in (x.0, c.
 pub step_in-last_word-requires-clause-fit : goal.step_in-last_word-requires-clause-fit
 step_in-last_word-requires-clause-fit c =
     let x = c.requires.first in
-    let r = c.lowered.result in
+    let r = c.lowered_if.result in
     let m = c.step_in-first_word.result.0 in
-    grown_in c.args.phase (omega (arith, c.requires.phase)) r.a r.b r.c r.d m.a m.b m.c m.d _ _ 49155 (c.step_in-first_word.ensures.step x.0 (c.sums_in.ensures x.0 x.1)) c.lowered.ensures.room
+    grown_in c.args.phase (omega (arith, c.requires.phase)) r.a r.b r.c r.d m.a m.b m.c m.d _ _ 49155 (c.step_in-first_word.ensures.step x.0 (c.sums_in.ensures x.0 x.1)) c.lowered_if.ensures.room
 
 pub step_in-last_word-requires-clause-sums : goal.step_in-last_word-requires-clause-sums
 step_in-last_word-requires-clause-sums c = let y = c.requires.last in (y.0, c.sums_in-2.ensures y.0 (next_read c.args.words.now c.args.at c.step_in-first_word.result.1 ∙ y.1))
@@ -25,12 +29,12 @@ pub returns-clause-steps : goal.returns-clause-steps
 returns-clause-steps c = λ x y ex ey.
     let in6 : c.args.phase < 6 = omega (arith, c.requires.phase) in
     let f = c.args.from in
-    let r = c.lowered.result in
+    let r = c.lowered_if.result in
     let m = c.step_in-first_word.result.0 in
     let t = c.step_in-last_word.result.0 in
     let first = c.step_in-first_word.ensures.step x (c.sums_in.ensures x ex) in
-    let s1 = first_step c.args.phase in6 f.a f.b f.c f.d r.a r.b r.c r.d m.a m.b m.c m.d _ _ c.lowered.ensures.lowered first in
-    let fit = grown_in c.args.phase in6 r.a r.b r.c r.d m.a m.b m.c m.d _ _ 49155 first c.lowered.ensures.room in
+    let s1 = first_step c.args.phase in6 f.a f.b f.c f.d r.a r.b r.c r.d m.a m.b m.c m.d _ _ c.lowered_if.ensures.lowered first in
+    let fit = grown_in c.args.phase in6 r.a r.b r.c r.d m.a m.b m.c m.d _ _ 49155 first c.lowered_if.ensures.room in
     let s2 = second_step c.args.phase c.requires.phase m.a m.b m.c m.d t.a t.b t.c t.d _ _ fit (c.step_in-last_word.ensures.step y (c.sums_in-2.ensures y (next_read c.args.words.now c.args.at c.step_in-first_word.result.1 ∙ ey))) in
     two_steps c.args.words.now c.args.at _ _ c.requires.more _ _ _ x y c.args.phase (c.args.phase + 1) s1 s2
 
@@ -40,12 +44,12 @@ returns-clause-spread c =
     let x = c.requires.first in
     let y = c.requires.last in
     let f = c.args.from in
-    let r = c.lowered.result in
+    let r = c.lowered_if.result in
     let m = c.step_in-first_word.result.0 in
     let t = c.step_in-last_word.result.0 in
     let first = c.step_in-first_word.ensures.step x.0 (c.sums_in.ensures x.0 x.1) in
-    let s1 = first_step c.args.phase in6 f.a f.b f.c f.d r.a r.b r.c r.d m.a m.b m.c m.d _ _ c.lowered.ensures.lowered first in
-    let fit = grown_in c.args.phase in6 r.a r.b r.c r.d m.a m.b m.c m.d _ _ 49155 first c.lowered.ensures.room in
+    let s1 = first_step c.args.phase in6 f.a f.b f.c f.d r.a r.b r.c r.d m.a m.b m.c m.d _ _ c.lowered_if.ensures.lowered first in
+    let fit = grown_in c.args.phase in6 r.a r.b r.c r.d m.a m.b m.c m.d _ _ 49155 first c.lowered_if.ensures.room in
     let s2 = second_step c.args.phase c.requires.phase m.a m.b m.c m.d t.a t.b t.c t.d _ _ fit (c.step_in-last_word.ensures.step y.0 (c.sums_in-2.ensures y.0 (next_read c.args.words.now c.args.at c.step_in-first_word.result.1 ∙ y.1))) in
     spread_step _ _ _ _ (spread_step _ _ _ _ c.requires.spread s1) s2
 

@@ -1,7 +1,7 @@
 use Rattle.std.proofs.Common.{◌∙◌, ap, ◌++◌, take}
 use Rattle.survivor_ring.specs.Rows.{bits_of_row}
 use Rattle.survivor_ring.proofs.RowSteps.{row_read, rows_shifted, take_within}
-use Rattle.survivor_ring.proofs.lists.ListSurvivorsSurvivors.give.Goals as goal
+use Rattle.survivor_ring.proofs.plain.ListSurvivorsSurvivors.give.Goals as goal
 
 pub returns-clause-list : goal.returns-clause-list
 returns-clause-list g c = λ n l t. rows_shifted _ c.args.self.now.now.items _ c.args.number c.args.self.now.waiting c.args.self.now.now_sized c.shift_rows.ensures.sized c.shift_rows.ensures.each n l

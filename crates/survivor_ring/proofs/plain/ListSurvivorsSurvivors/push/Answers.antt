@@ -3,7 +3,7 @@ use Rattle.std.specs.Global.{Vec}
 use Rattle.std.proofs.Common.{Bool}
 use Rattle.survivor_ring.specs.Rows.{AreSized, EachPushed}
 use Rattle.survivor_ring.proofs.RowSteps.{rows_pushed, before_below, half_lives}
-use Rattle.survivor_ring.proofs.lists.ListSurvivorsSurvivors.push.Goals as goal
+use Rattle.survivor_ring.proofs.plain.ListSurvivorsSurvivors.push.Goals as goal
 
 pub invariant_of-self-clause-lives : goal.invariant_of-self-clause-lives
 invariant_of-self-clause-lives g c = half_lives c.args.self.now.states c.args.decisions c.args.alive c.args.self.now.first c.requires.follows c.args.self.now.below c.args.self.now.lives

@@ -1,4 +1,4 @@
-// Survivors as lists of bits.
+// Survivors as lists of bits: the program of the definition.
 ghost use Rattle.std.specs.Prelude.{◌≡◌, ◌+◌, ◌-◌, ◌<◌, ◌≤◌, ℕ, [], ◌∷◌, ◌++◌, length, take, drop, IfOk, IsTrue, ◌↔◌};
 ghost use Rattle.spec_words.specs.Bits.{is_set};
 ghost use Rattle.survivor_ring.specs.Rows.{AreSized, EachPushed, EachShifted, Agree, bits_of_row};

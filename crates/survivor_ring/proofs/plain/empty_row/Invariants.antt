@@ -1,5 +1,5 @@
 use Rattle.std.proofs.Common.{◌≡◌, vec_len}
-use Rattle.survivor_ring.proofs.lists.empty_row.Given as goal
+use Rattle.survivor_ring.proofs.plain.empty_row.Given as goal
 
 abbrev pub invariant-loop-k : goal.invariant-loop-k
 invariant-loop-k l = vec_len l.bits ≡ l._k

@@ -1,5 +1,5 @@
 use Rattle.survivor_ring.proofs.RowSteps.{rows_alike}
-use Rattle.survivor_ring.proofs.lists.ListSurvivorsSurvivors.shared.Goals as goal
+use Rattle.survivor_ring.proofs.plain.ListSurvivorsSurvivors.shared.Goals as goal
 
 pub returns : goal.returns
 returns g c = let s = c.args.self.now in
