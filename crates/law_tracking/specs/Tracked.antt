@@ -48,6 +48,7 @@ pub record AreTracked (s : Settings) (inputs : Inputs) (bytes : List ℕ) : Type
             = weight_of (symbol_weights s (tracked_file s bytes) m) k;
       })
 
+-- the first symbols of a transmission through a flat channel are so restored
 abbrev pub BeginningsAreTracked : Type 0
 BeginningsAreTracked = (s : Settings) (inputs : Inputs) (a b : ℤ) (bytes : List ℕ) → IsFlat a b
     → HaveBegun s inputs a b bytes → AreTracked s inputs bytes
@@ -61,6 +62,7 @@ FilesAreTracked = (s : Settings) (inputs : Inputs) (a b : ℤ) (bytes : List ℕ
 abbrev pub IsWellTolerated : Type 0
 IsWellTolerated = (s : Shape) (h : Hierarchy) → 256 ≤ tolerance s h
 
+-- .. so a tracked file is within the tolerance of its transmission ..
 abbrev pub TrackedAreWithin : Type 0
 TrackedAreWithin = (s : Settings) (inputs : Inputs) (a b : ℤ) (bytes : List ℕ) → IsFlat a b → 4 ≤ symbols s bytes
     → HaveCome s inputs a b bytes → IsWithin s inputs (tracked_file s bytes)
