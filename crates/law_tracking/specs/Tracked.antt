@@ -1,5 +1,4 @@
--- The flat gain law of channel tracking for a file: its cells, after the header, were received through a flat channel,
--- and are corrected by the scattered pilots of neighbouring symbols.
+-- The flat gain law of channel tracking: a file received through a flat channel is restored.
 use Rattle.std.specs.Prelude.{◌≡◌, ℕ, ◌<◌, ◌≤◌, List, flat_map, map, ℤ}
 use Rattle.spec_words.specs.Words.{numbers}
 use Rattle.mode_set.specs.StreamTable.{carriers}

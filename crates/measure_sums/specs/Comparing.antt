@@ -1,5 +1,5 @@
--- The sums of a symbol: its received cells compared with those of its remade labels (the measurements are those of ETSI
--- TR 101 290, 9.15 to 9.18; which cells count is this project's profile).
+-- The sums of a symbol: its received cells compared with those of its remade labels (ETSI TR 101 290, 9.15 to 9.18;
+-- which cells count is this project's profile).
 use Rattle.std.specs.Prelude.{◌≡◌, ℕ, ◌+◌, ◌^◌, ◌<◌, nat_lt, ◌&&◌, not, if◌then◌else◌, Bool, true, false, List, sum_by}
 use Rattle.std.specs.Prelude.{count_by, slice_index, get_or, nat_abs}
 use Rattle.std.specs.Bool.{beq}

@@ -8,7 +8,7 @@ use Rattle.puncture.specs.SentBits.{Coded, X, Y, sent, bits_from}
 use Rattle.puncture.specs.declared.table.Sent.{Sent}
 use Rattle.puncture.specs.declared.table.Sent.TheVariants.{Both, OnlyX, OnlyY}
 
--- two coded bits are the same one of X and Y, with the same index
+-- whether two coded bits are the same
 abbrev pub same_coded : Coded → Coded → Bool
 same_coded (X i) (X j) = i == j
 same_coded (Y i) (Y j) = i == j

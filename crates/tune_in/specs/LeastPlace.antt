@@ -1,5 +1,4 @@
--- The least place in the symbols of a file, as a function: an exhaustive search through the symbols and all valid
--- fields (EN 300 744, 4.6.2).
+-- The least place in the symbols of a file, by exhaustive search (EN 300 744, 4.6.2).
 use Rattle.std.specs.Prelude.{◌≡◌, ℕ, suc, ◌-◌, ◌==◌, min, nat_le, Bool, true, false, not, ◌&&◌, ◌||◌, List, [], ◌∷◌}
 use Rattle.std.specs.Prelude.{Option, Some, None, if◌then◌else◌}
 use Rattle.std.specs.Option.{option_map, option_or}
