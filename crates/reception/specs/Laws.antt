@@ -92,7 +92,7 @@ abbrev pub NextCosts : Type 0
 NextCosts = (s : Settings) (bytes more : List ℕ) (σ : Stream) → EndsSymbol s bytes more → costs s (bytes ++ more) σ
     ≡ costs s bytes σ ++ symbol_costs s (bytes ++ more) σ (symbols s bytes)
 
--- no bytes have no costs
+-- without bytes there are no costs
 abbrev pub NoCosts : Type 0
 NoCosts = (s : Settings) (σ : Stream) → costs s [] σ ≡ []
 
@@ -135,7 +135,7 @@ NextEvents = (s : Settings) (bytes more : List ℕ) (before new : Stream → Lis
     → events s (symbols s bytes + 1) (λ σ. before σ ++ new σ) ≡ events s (symbols s bytes) before
     ++ (map (event_at Hp) (new Hp) ++ map (event_at Lp) (new Lp))
 
--- no symbols have no reports
+-- without symbols there are no reports
 abbrev pub NoEvents : Type 0
 NoEvents = (s : Settings) (reports : Stream → List ℕ) → events s 0 reports ≡ []
 
@@ -194,6 +194,6 @@ nothing = record { packets = λ σ. []; reports = λ σ. []; tally = λ σ. no_w
 abbrev pub NothingGiven : Type 0
 NothingGiven = (most : ℕ) (start : Start) → Given most (start_of start) [] []
 
--- no bytes give no live output
+-- without bytes there is no live output
 abbrev pub NothingLive : Type 0
 NothingLive = (s : Settings) → Live s [] nothing

@@ -53,11 +53,11 @@ ConstantStreams = (s : Settings) (σ : Stream) → entries_of s.plan ≡ [] → 
 
 -- ---- steps
 
--- no symbols have no steps
+-- there are no steps before symbol 0
 abbrev pub NoSteps : Type 0
 NoSteps = (s : Settings) (σ : Stream) → steps_before s σ 0 ≡ 0
 
--- one more symbol adds its steps
+-- each symbol adds its steps
 abbrev pub StepsOfOneMore : Type 0
 StepsOfOneMore = (s : Settings) (σ : Stream) (m : ℕ) → steps_before s σ (m + 1) ≡ steps_before s σ m + steps_of s σ m
 
@@ -89,11 +89,11 @@ ConstantSteps = (s : Settings) (σ : Stream) (m : ℕ) → ((j : ℕ) → settin
 
 -- ---- words
 
--- no super-frames have no outer words
+-- there are no outer words before super-frame 0
 abbrev pub NoWords : Type 0
 NoWords = (s : Settings) (σ : Stream) → words_before s σ 0 ≡ 0
 
--- one more super-frame adds its outer words
+-- each super-frame adds its outer words
 abbrev pub WordsOfOneMore : Type 0
 WordsOfOneMore = (s : Settings) (σ : Stream) (n : ℕ) → words_before s σ (n + 1) ≡ words_before s σ n + words_in s σ n
 

@@ -21,7 +21,7 @@ SymbolsAreCells = (s : Settings) (inputs : Inputs) (m : ℕ) → tx_symbol s inp
 abbrev pub SymbolsAreLong : Type 0
 SymbolsAreLong = (s : Settings) (inputs : Inputs) (m : ℕ) → length (tx_symbol s inputs m) ≡ 5 * carriers s.mode
 
--- no symbols have no bytes
+-- zero symbols have no bytes
 abbrev pub NoSymbol : Type 0
 NoSymbol = (s : Settings) (inputs : Inputs) → first_symbols s inputs 0 ≡ []
 
@@ -74,7 +74,7 @@ ConstantFrames = (s : Settings) (counts : Stream → ℕ) → entries_of s.plan 
 abbrev pub ThePacketsAreLeast : Type 0
 ThePacketsAreLeast = (s : Settings) (σ : Stream) (n : ℕ) → ArePacketsFor s σ n (packets_for s σ n)
 
--- no symbols need no packets
+-- zero symbols need no packets
 abbrev pub NoPackets : Type 0
 NoPackets = (s : Settings) (σ : Stream) → packets_for s σ 0 ≡ 0
 
