@@ -32,6 +32,7 @@ pub record IsSettled (old new : Sums) (less : ℕ) : Type 0 where
 abbrev pub cost_from : CostPair → ℕ → Bool → ℕ → ℕ
 cost_from pair parity input k = step_cost pair (register (2 * k + parity) ++ input ∷ [])
 
+-- a cost is that of the step from state 2k + parity on an input, at most 8190
 pub record AreSteps (pair : CostPair) (parity : ℕ) (input : Bool) (k cost : ℕ) : Type 0 where
   pub is : cost ≡ cost_from pair parity input k
   pub small : cost ≤ 8190

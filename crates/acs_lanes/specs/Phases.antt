@@ -26,7 +26,7 @@ way_in (suc (suc (suc zero))) k = lane_by 0 1 2 3 4 k
 way_in (suc (suc (suc (suc zero)))) k = lane_by 1 0 2 3 4 k
 way_in (suc (suc (suc (suc (suc p))))) k = lane_by 4 0 1 2 3 k
 
--- where a state's cost is among 64 lanes
+-- the lane, of 64, that has a state's cost
 abbrev pub place_in : ℕ → ℕ → ℕ
 place_in p n = 32 * (n % 2) + way_in p (n / 2)
 
@@ -34,6 +34,7 @@ place_in p n = 32 * (n % 2) + way_in p (n / 2)
 abbrev pub laid_in : ℕ → List ℕ → List ℕ → List ℕ → List ℕ → List ℕ
 laid_in p a b c d = map (λ n. slice_index (joined a b c d) (place_in p n)) (range_with_len 0 64)
 
+-- the phase of the next step
 abbrev pub next : ℕ → ℕ
 next p = (p + 1) % 6
 
@@ -78,7 +79,7 @@ abbrev pub swapped : ℕ → ℕ → ℕ
 swapped e n = n / 32 * 32 + 16 * (n / 2 ^ e % 2) + n / 2 ^ (e + 1) % 2 ^ (3 - e) * 2 ^ (e + 1) + 2 ^ e * (n / 16 % 2)
     + n % 2 ^ e
 
--- where the bits of a word in a mask differ from those so many places above them
+-- the bits of a word in a mask that differ from those `shift` places above them
 abbrev pub differ : ℕ → ℕ → ℕ → ℕ
 differ shift mask word = bit_and (bit_xor (word / 2 ^ shift) word) mask
 
@@ -95,6 +96,7 @@ shift_in (suc (suc zero)) = 12
 shift_in (suc (suc (suc zero))) = 14
 shift_in (suc (suc (suc (suc p)))) = 15
 
+-- the bits of a decision word that this exchange moves
 abbrev pub mask_in : ℕ → ℕ
 mask_in zero = 0
 mask_in (suc zero) = 280375465148160
@@ -128,21 +130,23 @@ byte_of w = 16 * (w / 8 % 2) + 8 * (w / 16) + w % 8
 abbrev pub ordered : ℕ → List ℕ → List ℕ
 ordered p bytes = map (λ i. slice_index (bytes ++ bytes) (byte_of (way_in p (exchanged p i)))) (range_with_len 0 32)
 
--- the lower four of each eight lanes of two vectors in turn, and the upper four
+-- the lower four of each eight lanes of two vectors in turn
 abbrev pub lower_fours : List ℕ → List ℕ → List ℕ
 lower_fours x y = map (λ k. slice_index (x ++ y) (k / 8 * 8 + k / 2 % 4 + 16 * (k % 2))) (range_with_len 0 16)
 
+-- the upper four of each eight lanes of two vectors in turn
 abbrev pub upper_fours : List ℕ → List ℕ → List ℕ
 upper_fours x y = map (λ k. slice_index (x ++ y) (k / 8 * 8 + 4 + k / 2 % 4 + 16 * (k % 2))) (range_with_len 0 16)
 
--- the lower eight lanes of two vectors, and the upper eight
+-- the lower eight lanes of two vectors
 abbrev pub lower_eights : List ℕ → List ℕ → List ℕ
 lower_eights x y = map (λ k. slice_index (x ++ y) (k % 8 + 16 * (k / 8))) (range_with_len 0 16)
 
+-- the upper eight lanes of two vectors
 abbrev pub upper_eights : List ℕ → List ℕ → List ℕ
 upper_eights x y = map (λ k. slice_index (x ++ y) (8 + k % 8 + 16 * (k / 8))) (range_with_len 0 16)
 
--- the costs in the order of states are those that two and two vectors hold behind a step
+-- the costs in the order of states are those that two and two vectors hold after a step
 pub record AreTurnedIn (phase : ℕ) (low_first low_last high_first high_last costs : List ℕ) : Type 0 where
   pub low : (k : ℕ) → k < 32 → slice_index costs k ≡ slice_index (low_first ++ low_last) (way_in phase k)
   pub high : (k : ℕ) → k < 32 → slice_index costs (k + 32) ≡ slice_index (high_first ++ high_last) (way_in phase k)

@@ -1,4 +1,4 @@
-//! Where the coded bits of a symbol stand in the labels of its words: demultiplexing and the bit
+//! The places of a symbol's coded bits in the labels of its words: demultiplexing and the bit
 //! interleavers in one formula (EN 300 744, 4.3.4.1).
 #![tactic(auto)]
 

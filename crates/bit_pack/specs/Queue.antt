@@ -16,6 +16,7 @@ abbrev pub queue : List ℕ → ℕ → ℕ → ℕ → ℕ → ℕ → ℕ → 
 queue bytes first count front front_len back back_len =
     spelled front_len front ++ (bits_of_bytes (ring bytes first count) ++ spelled back_len back)
 
+-- the queue fits in a ring of n bytes, 65536 at most; its parts outside the ring are shorter than a byte
 pub record IsSized (n first count front_len back_len : ℕ) : Type 0 where
   pub few : n ≤ 65536
   pub first_within : first ≤ n

@@ -109,7 +109,7 @@ fn first_of(first: usize, count: usize) -> usize
     if count == 0 { 0 } else { first }
 }
 
-/// The bytes of a part of a ring that does not go round the end.
+/// The bytes of a part of a ring that does not wrap at its end.
 fn copy_part(bytes: &[u8], first: usize, to: &mut [u8])
     requires room { first + length to.old ≤ length bytes.now }
     ensures size { length to.new ≡ length to.old }
@@ -119,7 +119,7 @@ fn copy_part(bytes: &[u8], first: usize, to: &mut [u8])
     to.copy_from_slice(&bytes[first..first + to.len()]);
 }
 
-/// Puts bytes behind those of a ring, if they do not go round the end.
+/// Appends bytes to those of a ring, if they do not wrap at its end.
 fn paste_part(bytes: &mut [u8], first: usize, count: usize, part: &[u8])
     requires room { first + count + length part.now ≤ length bytes.old }
     ensures size { length bytes.new ≡ length bytes.old }
@@ -145,7 +145,7 @@ fn shift_part(back: u8, back_len: u8, part: &[u8], to: &mut [u8]) -> u8
     last
 }
 
-/// Puts bytes behind those of a ring and the lowest `back_len` bits of `back`, if they do not go round the end. Returns
+/// Appends bytes to those of a ring and the lowest `back_len` bits of `back`, if they do not wrap at its end. Returns
 /// the byte whose lowest `back_len` bits are left.
 fn paste_shifted(
     bytes: &mut [u8],
@@ -219,7 +219,7 @@ impl<const N: usize> BitBuf<N> {
         self.back = byte;
     }
 
-    // Puts bytes behind the others, one by one.
+    // Appends bytes, one by one.
     fn push_each(&mut self, bytes: &[u8])
         requires room { length self.old + 8 * length bytes.now ≤ 8 * N }
         ensures { self.new ≡ self.old ++ bits_of_bytes bytes.now }
@@ -229,7 +229,7 @@ impl<const N: usize> BitBuf<N> {
         }
     }
 
-    // Puts the bits of bytes behind the others, at once if they do not go round the end of the ring.
+    // Appends the bits of bytes, at once if they do not wrap at the end of the ring.
     fn push_shifted(&mut self, bytes: &[u8])
         requires room { length self.old + 8 * length bytes.now ≤ 8 * N }
         ensures { self.new ≡ self.old ++ bits_of_bytes bytes.now }
@@ -249,7 +249,7 @@ impl<const N: usize> BitBuf<N> {
         }
     }
 
-    /// Puts the bits of bytes behind the others. There must be room for them.
+    /// Appends the bits of bytes. There must be space for them.
     pub fn push_bytes(&mut self, bytes: &[u8])
         requires room { length self.old + 8 * length bytes.now ≤ 8 * N }
         ensures bits { self.new ≡ self.old ++ bits_of_bytes bytes.now }

@@ -1,6 +1,5 @@
--- A file of cells that begins anywhere, aligned to the super-frame after the one found (the cell file is this project's
--- own; EN 300 744, 4.6.2: a frame signals the parameters of the next super-frame). `bytes` are those after the header
--- of the file.
+-- A file of cells that begins anywhere, aligned to the super-frame after the one found (EN 300 744, 4.6.2; the cell
+-- file is this project's own). `bytes` are those after the header of the file.
 use Rattle.std.specs.Prelude.{◌≡◌, ◌⊎◌, ℕ, ◌*◌, ◌<◌, ◌≤◌, nat_lt, if◌then◌else◌, List, [], ◌++◌, take, drop, Option}
 use Rattle.std.specs.Prelude.{Some, None}
 use Rattle.std.specs.Option.{option_or}

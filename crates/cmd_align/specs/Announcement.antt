@@ -15,17 +15,20 @@ use Rattle.tune_search.specs.Searching.{place_line}
 use Rattle.tps_word.specs.declared.word.TpsWord.{TpsWord}
 use Rattle.tune_in.specs.declared.frame.Found.{Found}
 
+-- the name of a constellation
 abbrev pub shape_word : Shape → List ℕ
 shape_word Qpsk = codes "qpsk"
 shape_word Qam16 = codes "16qam"
 shape_word Qam64 = codes "64qam"
 
+-- the name of a hierarchy
 abbrev pub hierarchy_word : Hierarchy → List ℕ
 hierarchy_word Flat = codes "none"
 hierarchy_word Alpha1 = codes "1"
 hierarchy_word Alpha2 = codes "2"
 hierarchy_word Alpha4 = codes "4"
 
+-- the name of a code rate
 abbrev pub rate_word : Rate → List ℕ
 rate_word R1of2 = codes "1/2"
 rate_word R2of3 = codes "2/3"
@@ -33,6 +36,7 @@ rate_word R3of4 = codes "3/4"
 rate_word R5of6 = codes "5/6"
 rate_word R7of8 = codes "7/8"
 
+-- the name of a guard interval
 abbrev pub guard_word : Guard → List ℕ
 guard_word G1of32 = codes "1/32"
 guard_word G1of16 = codes "1/16"

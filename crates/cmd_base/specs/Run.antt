@@ -1,8 +1,7 @@
 -- The promise of a run. `old` and `new` are the states of the station before and after the run of a command, `limit` is
--- the most packets taken from a transport file, and `status` is the result.
---
--- A station may or may not know the contents of its files; clauses on contents hold if it does. A count of faults rose
--- in the run if it is greater after it than before, or is at its greatest number.
+-- the most packets taken from a transport file, and `status` is the result. A station may or may not know the contents
+-- of its files; clauses on contents hold if it does. A count of faults rose in the run if it is greater after it than
+-- before, or is at its greatest number.
 use Rattle.std.specs.Prelude.{◌≡◌, ◌≢◌, ◌≤◌, ◌⊎◌, ◌++◌, ℕ, true, false, List, [], ◌∷◌, take, drop, None}
 use Rattle.station_core.specs.Meaning.{Meaning, IsUntouched, source_at, sink_at}
 use Rattle.station_core.specs.Causes.{Rose}

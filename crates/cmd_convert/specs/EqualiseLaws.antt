@@ -1,4 +1,4 @@
--- The law of `equalise`: cells received through a flat channel (one gain for all carriers) are restored.
+-- The law of `equalise`: cells received through a flat channel are restored.
 use Rattle.std.specs.Prelude.{◌≡◌, List, ℕ, ℤ, Option, Some}
 use Rattle.mode_set.specs.declared.modes.Start.TheVariants.{Zero}
 use Rattle.mode_set.specs.declared.settings.Settings.{Settings}

@@ -16,10 +16,10 @@ pub record IsFed (size : ℕ) (old : MeasurerState) (piece : List ℕ) (new : Me
   pub fed : (bytes given : List ℕ) → StandsFor so_far old bytes given
       → StandsFor so_far new (bytes ++ take n piece) (given ++ concat lines)
 
+-- f may feed every measurer that has not ended and has had fewer than 2^32 symbols, and does so
 module _ {F T : Type 0} (size : ℕ) (state : T → MeasurerState)
     (g : Shared F (MutBor T × (Bor (List ℕ) × (MutBor (List (List ℕ)) × Unit {0})))
     (ℕ × (MutBor T × (MutBor (List (List ℕ)) × Unit {0})))) (f : F) where
-  -- f may feed every measurer that has not ended and has had fewer than 2^32 symbols, and does so
   pub record IsFeeder : Type 0 where
     pub may : (x : MutBor T) (piece : Bor (List ℕ)) (out : MutBor (List (List ℕ))) → (state x.now).ended ≡ false
         → (state x.now).taken < 2 ^ 32 → g.pre f (x, (piece, (out, tt)))

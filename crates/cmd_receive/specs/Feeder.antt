@@ -13,10 +13,10 @@ pub record IsFed (old : ReceiverState) (piece : List ℕ) (new : ReceiverState) 
   pub fed : (bytes : List ℕ) (r : Reception) → StandsFor so_far old bytes r
       → Feeds (StandsFor so_far new) old.settings bytes piece r n out
 
+-- f may feed every receiver that has not ended and has had fewer than 2^32 symbols, and does so
 module _ {F T : Type 0} (state : T → ReceiverState) (g : Shared F
     (MutBor T × (Bor (List ℕ) × (MutBor Output × Unit {0}))) (ℕ × (MutBor T × (MutBor Output × Unit {0}))))
     (f : F) where
-  -- f may feed every receiver that has not ended and has had fewer than 2^32 symbols, and does so
   pub record IsFeeder : Type 0 where
     pub may : (x : MutBor T) (piece : Bor (List ℕ)) (out : MutBor Output) → (state x.now).ended ≡ false
         → (state x.now).taken < 2 ^ 32 → g.pre f (x, (piece, (out, tt)))

@@ -9,5 +9,6 @@ few_lp : (o : Option StreamCounts) → take 2 (lp_lines o) ≡ lp_lines o
 few_lp None = refl
 few_lp (Some c) = refl
 
+-- `rescue` has at most four closing lines
 pub few_lines : (c : Counts) → take 4 (closing_lines c) ≡ closing_lines c
 few_lines c = λ i. symbols_line c.symbols c.tail ∷ stream_line Hp c.hp ∷ few_lp c.lp i

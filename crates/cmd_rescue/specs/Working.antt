@@ -18,6 +18,7 @@ rescuing = record {
   closing = closing_lines;
 }
 
+-- the work of `rescue` with these settings
 abbrev pub rescue_work : Settings → Bool → Work
 rescue_work = work_of rescuing
 

@@ -28,10 +28,11 @@ limit_of most (Some n) = if nat_lt most (272 * n) then Some (Limit most) else No
 abbrev pub trial_refusal : Settings → ℕ → Option Refusal
 trial_refusal s number = limit_of s.max_symbols (trial_frames s number)
 
--- the line for the cells fed, and the line for the packets of a stream
+-- the line for the cells fed
 abbrev pub cells_line : TrialCounts → List ℕ
 cells_line counts = codes "cells " ++ decimal counts.cells ++ codes "\n"
 
+-- the line for the packets of a stream
 abbrev pub return_line : Stream → StreamReturn → List ℕ
 return_line σ r = stream_text σ ++ codes " packets " ++ decimal r.packets ++ codes " back " ++ decimal r.back
     ++ codes " sum " ++ decimal r.sum ++ codes "\n"

@@ -1,5 +1,5 @@
--- The command `tune`: the files that it reads and writes, and what it produces from its settings and the file of cells
--- alone. Of the settings only the mode, the workers and the limit are used.
+-- The command `tune`: its files and its outputs, from its settings and the file of cells alone. Of the settings only
+-- the mode, the workers and the limit are used.
 use Rattle.std.specs.Prelude.{◌≡◌, ℕ, ◌+◌, true, List, [], ◌∷◌, Option, None, Some, is_some, option_and_then}
 use Rattle.station_core.specs.declared.ports.InPort.TheVariants as ins
 use Rattle.station_core.specs.declared.ports.OutPort.{OutPort}

@@ -36,9 +36,11 @@ RefusesTuning s two bytes left given WriteFault = ⊥
 RefusesTuning s two bytes left given (NotSync stream n) = ⊥
 RefusesTuning s two bytes left given (Limit n) = ⊥
 
+-- `tune` refuses the cells for want of a place, of a place that fits, or of memory
 abbrev pub TuningReasons : Refusal → Type 0
 TuningReasons r = (r ≡ Cells NoPlace) ⊎ (r ≡ Cells AnnouncedForm) ⊎ (r ≡ Memory)
 
+-- the work of `tune` with these settings
 abbrev pub tuning_work : Settings → Bool → Work
 tuning_work s two = record {
   size = symbol_length s;

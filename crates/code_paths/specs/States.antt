@@ -6,10 +6,11 @@ use Rattle.spec_words.specs.Bits.{is_set}
 abbrev pub register : ℕ → List Bool
 register s = is_set s 0 ∷ is_set s 1 ∷ is_set s 2 ∷ is_set s 3 ∷ is_set s 4 ∷ is_set s 5 ∷ []
 
--- the two predecessors of a state, which differ in the oldest bit
+-- the even predecessor of a state, whose oldest bit is 0
 abbrev pub even_of : ℕ → ℕ
 even_of n = 2 * (n % 32)
 
+-- the odd predecessor of a state, whose oldest bit is 1
 abbrev pub odd_of : ℕ → ℕ
 odd_of n = 2 * (n % 32) + 1
 

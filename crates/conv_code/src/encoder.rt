@@ -121,7 +121,7 @@ impl Encoder {
     }
 
     /// Takes the eight bits of a byte, the most significant first, and answers the inputs of their steps: the register
-    /// before them, and behind it the eight bits, the oldest one the most significant of fourteen.
+    /// before them, then the eight bits, the oldest one the most significant of fourteen.
     pub fn push_byte(&mut self, byte: u8) -> u16
         ensures inputs { spelled 14 result ≡ self.old ++ spelled 8 byte }
         ensures register { self.new ≡ drop 8 (self.old ++ spelled 8 byte) }

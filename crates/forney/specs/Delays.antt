@@ -9,13 +9,15 @@ pub record Delays : Type 0 where
   pub lines : List (Buffer ℕ)
   pub next : ℕ
 
+-- the twelve delay lines, and the branch of the next byte
 abbrev pub delays : List (Buffer ℕ) → ℕ → Delays
 delays lines next = record { lines = lines; next = next }
 
--- the delay of a branch in words, at the sender and at the receiver
+-- the delay of a branch at the sender, in words
 abbrev pub rising : ℕ → ℕ
 rising branch = branch
 
+-- the delay of a branch at the receiver, in words
 abbrev pub falling : ℕ → ℕ
 falling branch = 11 - branch
 
@@ -32,6 +34,7 @@ abbrev pub waiting : ℕ → List ℕ → ℕ → List ℕ
 waiting d bytes branch = values (λ k. delayed (stream_of bytes) (next_of (length bytes) branch + 12 * k) (204 * d)) 0
     (17 * d)
 
+-- the delay line of a branch
 abbrev pub line : List (Buffer ℕ) → ℕ → Buffer ℕ
 line lines branch = slice_index_or lines branch (buffer [] 0)
 

@@ -3,6 +3,7 @@ use Rattle.std.specs.Prelude.{◌≡◌, ℕ, ◌+◌, ◌-◌, ◌*◌, ◌<◌
 use Rattle.circular_buffer.specs.Buffer.{Buffer, buffer}
 use Rattle.forney.specs.Values.{values}
 
+-- the twelve branches of the interleaver
 abbrev pub branches : List ℕ
 branches = 0 ∷ 1 ∷ 2 ∷ 3 ∷ 4 ∷ 5 ∷ 6 ∷ 7 ∷ 8 ∷ 9 ∷ 10 ∷ 11 ∷ []
 

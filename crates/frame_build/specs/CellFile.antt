@@ -1,5 +1,5 @@
--- The header of a cell file (this project's own format): a header of eight bytes, then the cells of all symbols in
--- order, five bytes each.
+-- A cell file (this project's own format): a header of eight bytes, then the cells of all symbols in order, five bytes
+-- each.
 use Rattle.std.specs.Prelude.{ℕ, List, [], ◌∷◌}
 use Rattle.mode_set.specs.declared.modes.Mode.{Mode}
 use Rattle.mode_set.specs.declared.modes.Mode.TheVariants.{M2k, M8k}

@@ -94,6 +94,7 @@ index_of m (Payload q) opposite = q
 abbrev pub AreIndices : Mode → ℕ → List ℕ → ℕ → Type 0
 AreIndices m l list n = (k d : ℕ) → k < n → get_or list k d ≡ index_of m (kind m l k) (reference k)
 
+-- the indices of all carriers of symbols 0 to 3
 abbrev pub AreAllIndices : Mode → List (List ℕ) → Type 0
 AreAllIndices m lists = (i : ℕ) (d : List ℕ) → i < 4 → AreIndices m i (get_or lists i d) (carriers m)
 

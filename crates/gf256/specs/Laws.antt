@@ -8,12 +8,15 @@ IsElement a = a < 256
 
 -- addition
 
+-- a sum of elements is an element
 abbrev pub SumIsElement : Type 0
 SumIsElement = (a b : ℕ) → IsElement a → IsElement b → IsElement (bit_xor a b)
 
+-- addition is commutative
 abbrev pub SumCommutes : Type 0
 SumCommutes = (a b : ℕ) → bit_xor a b ≡ bit_xor b a
 
+-- addition is associative
 abbrev pub SumAssociates : Type 0
 SumAssociates = (a b c : ℕ) → bit_xor (bit_xor a b) c ≡ bit_xor a (bit_xor b c)
 
@@ -27,12 +30,15 @@ SumWithItself = (a : ℕ) → bit_xor a a ≡ 0
 
 -- multiplication
 
+-- a product of elements is an element
 abbrev pub ProductIsElement : Type 0
 ProductIsElement = (a b : ℕ) → IsElement a → IsElement b → IsElement (mul a b)
 
+-- multiplication is commutative
 abbrev pub ProductCommutes : Type 0
 ProductCommutes = (a b : ℕ) → IsElement a → IsElement b → mul a b ≡ mul b a
 
+-- multiplication is associative
 abbrev pub ProductAssociates : Type 0
 ProductAssociates = (a b c : ℕ) → IsElement a → IsElement b → IsElement c → mul (mul a b) c ≡ mul a (mul b c)
 

@@ -1,5 +1,5 @@
--- Hard decisions: the value of an axis nearest to the received one (the points are those of EN 300 744, 4.3.5; ties are
--- this project's profile).
+-- Hard decisions: the value of an axis nearest to the received one (EN 300 744, 4.3.5; ties are this project's
+-- profile).
 use Rattle.std.specs.Prelude.{ℕ, ◌/◌, nat_lt, ◌==◌, ◌&&◌, ◌||◌, Bool, false, Option, find, ℤ, int_le}
 use Rattle.std.specs.List.{list_all}
 use Rattle.std.specs.Option.{option_map_or}

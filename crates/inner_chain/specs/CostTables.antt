@@ -55,12 +55,12 @@ row = 256
 abbrev pub most_places : ℕ
 most_places = 1536
 
--- the number of the costs of a coded bit among those of all places of the words of a block, the number behind the most
--- for an unsent bit
+-- the number of a coded bit's costs among those of all places of a block's words; for an unsent bit the one after them
 abbrev pub entry_at : Settings → Stream → Option ℕ → ℕ
 entry_at s σ None = most_places
 entry_at s σ (Some d) = place_in_label s.shape s.hierarchy σ d * row + word_of_bit s.shape s.hierarchy σ d
 
+-- an entry names a cost of a block, or the pair after them for an unsent bit
 abbrev pub IsSmallEntry : ℕ → Type 0
 IsSmallEntry n = n ≤ most_places
 
@@ -70,6 +70,7 @@ IsPlaced s σ None = ⊤
 IsPlaced s σ (Some d) = (0 < width s.shape s.hierarchy σ) × (word_of_bit s.shape s.hierarchy σ d < block_words)
     × (place_in_label s.shape s.hierarchy σ d < label_bits s.shape)
 
+-- 1 if a coded bit is sent, 0 if it is punctured
 abbrev pub count_of : Bool → ℕ
 count_of b = if b then 1 else 0
 
@@ -131,7 +132,7 @@ pub record AreCosts (s : Settings) (cells : List Cell) (weights : List ℕ) (l b
     pub at : (w e : ℕ) → w < block_words → e < label_bits s.shape → pair_at costs (e * row + w)
         ≡ weighted_costs_on s cells weights l (place_of_word s.mode (is_odd l) (b * block_words + w)) e
 
--- space for the costs of a block of any labels; the pairs behind them are 0, and no cost exceeds 4095
+-- space for the costs of a block of any labels; the pairs after them are 0, and no cost exceeds 4095
 pub record IsRoom (costs : List (ℕ × ℕ)) : Type 0 where
   pub long : length costs ≡ most_places + run_words
   pub last : (k : ℕ) → most_places ≤ k → pair_at costs k ≡ (0, 0)
@@ -177,7 +178,7 @@ pub record AppendsFirst (s : Settings) (cells : List Cell) (weights : List ℕ) 
   pub at : (t : ℕ) (d : CostPair) → t < n → IsPairOf s cells weights l σ t (slice_index_or pairs t d)
   pub is : new ≡ old ++ pairs
 
--- the cost pairs of the first n steps of symbol l were written over those at the front of a list
+-- the cost pairs of the first n steps of symbol l were written over the first ones of a list
 pub record WritesPairs (s : Settings) (cells : List Cell) (weights : List ℕ) (l : ℕ) (σ : Stream) (n : ℕ)
     (old new : List CostPair) : Type 0 where
   pub long : length new ≡ length old
@@ -212,7 +213,7 @@ pub record CostsState : Type 0 where
   pub mode : Mode
   pub costs : List (ℕ × ℕ)
 
--- what they are found from: the carriers of the words, and room
+-- what they are found from: the carriers of the words, and space
 pub record IsCostRoom (m : Mode) (carrier_table : List ℕ) (cells : List Cell) (weights : List ℕ) (costs : List (ℕ × ℕ))
     : Type 0 where
   pub are_carriers : AreCarriers m (4 * payload m) carrier_table

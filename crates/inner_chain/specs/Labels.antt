@@ -38,6 +38,7 @@ pub record TxState : Type 0 where
   pub hp : List Bool
   pub lp : List Bool
 
+-- the register of a stream's encoder
 abbrev pub register_of : TxState → Stream → List Bool
 register_of st Hp = st.hp
 register_of st Lp = st.lp
@@ -54,10 +55,11 @@ from_step path n t = path (n + t)
 abbrev pub IsBefore : TxState → Paths → Type 0
 IsBefore st paths = (σ : Stream) → register_of st σ ≡ bits_from (paths σ) 0 6
 
--- the input bits of a symbol at the start of these paths, and the paths after the symbol
+-- the input bits of a symbol at the start of these paths
 abbrev pub input_bits : Settings → Paths → Stream → List Bool
 input_bits s paths σ = bits_from (paths σ) 6 (need s σ)
 
+-- the paths after the symbol
 abbrev pub behind : Settings → Paths → Paths
 behind s paths σ = from_step (paths σ) (need s σ)
 

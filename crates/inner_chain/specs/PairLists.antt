@@ -23,6 +23,7 @@ costs_on_are_small : (s : Settings) (cells : List Cell) (l q e : ℕ) → IsSmal
 unfolding costs_on cost
 costs_on_are_small s cells l q e = (min-le_left _ _, min-le_left _ _)
 
+-- no weighted cost is above 4095
 pub weighted_costs_are_small : (s : Settings) (cells : List Cell) (weights : List ℕ) (l q e : ℕ)
     → IsSmallPair (weighted_costs_on s cells weights l q e)
 unfolding weighted_costs_on
@@ -30,6 +31,7 @@ weighted_costs_are_small s cells weights l q e =
     weighted_is_small (costs_on s cells l q e) (weight_of weights (slice_index (payload_carriers s.mode l) q))
     (costs_on_are_small s cells l q e) (min-le_left _ _)
 
+-- no cost of a coded bit is above 4095, sent or punctured
 pub costs_are_small : (s : Settings) (cells : List Cell) (weights : List ℕ) (l : ℕ) (σ : Stream) (d : Option ℕ)
     → IsSmallPair (costs_at (costs_of_bit s cells weights l σ) d)
 costs_are_small s cells weights l σ None = (omega arith, omega arith)

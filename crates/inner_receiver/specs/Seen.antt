@@ -18,6 +18,7 @@ pub record CostsState : Type 0 where
   pub hp : List CostPair
   pub lp : List CostPair
 
+-- the cost pairs of a stream
 abbrev pub pairs_of : CostsState → Stream → List CostPair
 pairs_of x Hp = x.hp
 pairs_of x Lp = x.lp

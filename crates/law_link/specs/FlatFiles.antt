@@ -1,5 +1,4 @@
--- The flat gain law for a file: its cells, after the header, were received through a flat channel, and are corrected
--- symbol by symbol.
+-- The flat gain law for a file: cells received through a flat channel are corrected symbol by symbol.
 use Rattle.std.specs.Prelude.{◌≡◌, ℕ, ◌<◌, ◌≤◌, List, flat_map, ℤ}
 use Rattle.spec_words.specs.Words.{numbers}
 use Rattle.mode_set.specs.StreamTable.{carriers}

@@ -13,10 +13,11 @@ use Rattle.soft_metric.specs.Weights.{full_weight}
 abbrev pub old_symbol_length : Mode → ℕ
 old_symbol_length mode = 4 * carriers mode
 
--- the number of whole symbols in old bytes, and of bytes after them
+-- the number of whole symbols in old bytes
 abbrev pub old_symbols : Mode → List ℕ → ℕ
 old_symbols mode bytes = length bytes / old_symbol_length mode
 
+-- the number of old bytes after the whole symbols
 abbrev pub old_tail : Mode → List ℕ → ℕ
 old_tail mode bytes = length bytes % old_symbol_length mode
 

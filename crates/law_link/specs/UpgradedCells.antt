@@ -14,6 +14,7 @@ pub record AreWhole (s : Settings) (bytes : List ℕ) : Type 0 where
   pub many : symbols s (upgraded s.mode bytes) ≡ old_symbols s.mode bytes
   pub no_more : tail s (upgraded s.mode bytes) ≡ 0
 
+-- upgrading keeps the number of whole symbols
 abbrev pub UpgradedAreWhole : Type 0
 UpgradedAreWhole = (s : Settings) (bytes : List ℕ) → AreWhole s bytes
 
@@ -29,5 +30,6 @@ pub record ArePlain (s : Settings) (bytes : List ℕ) (σ : Stream) : Type 0 whe
       → IsPlainPairOf (settings_at s m) (old_symbol_cells s.mode bytes m) (m % 68) σ (t - steps_before s σ m)
       (slice_index_or (costs s (upgraded s.mode bytes) σ) t d)
 
+-- a receiver of upgraded cells has the costs of the old cells
 abbrev pub UpgradedCostsArePlain : Type 0
 UpgradedCostsArePlain = (s : Settings) (bytes : List ℕ) (σ : Stream) → ArePlain s bytes σ

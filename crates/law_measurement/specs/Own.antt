@@ -61,22 +61,23 @@ pub record IsMeasuredClean (s : Settings) (n j : ℕ) (f : SuperFrame) : Type 0 
 abbrev pub tolerance_in : Settings → ℕ → ℕ
 tolerance_in s j = tolerance (settings_in s j).shape (settings_in s j).hierarchy
 
--- cells within the tolerance of a transmission, on both axes, measure as free of errors, with a bounded modulation
--- error
+-- the measurement shows no errors, and a modulation error within the tolerance on both axes
 pub record IsMeasuredNear (s : Settings) (n j : ℕ) (f : SuperFrame) : Type 0 where
   pub clean : IsMeasuredClean s n j f
   pub error : f.error ≤ 2 * tolerance_in s j ^ 2 * f.cells
 
+-- noise within the tolerance causes no errors in any super-frame
 abbrev pub NoiseIsMeasured : Type 0
 NoiseIsMeasured = (s : Settings) (inputs : Inputs) (bytes : List ℕ) (n j : ℕ) (f : SuperFrame) → s.start ≡ Zero
     → HavePackets s inputs → super_frames s (counts_of inputs) ≡ Some n → IsWithin s inputs bytes → j < n
     → AreSums s bytes j f → IsMeasuredNear s n j f
 
--- a transmission's own cells measure as free of errors, with a modulation error of 0
+-- the measurement shows no errors, and a modulation error of 0
 pub record IsMeasuredExact (s : Settings) (n j : ℕ) (f : SuperFrame) : Type 0 where
   pub clean : IsMeasuredClean s n j f
   pub error : f.error ≡ 0
 
+-- a transmission without noise has a modulation error of 0 in every super-frame
 abbrev pub OwnIsMeasured : Type 0
 OwnIsMeasured = (s : Settings) (inputs : Inputs) (n j : ℕ) (f : SuperFrame) → s.start ≡ Zero → HavePackets s inputs
     → super_frames s (counts_of inputs) ≡ Some n → j < n → AreSums s (tx s inputs) j f → IsMeasuredExact s n j f

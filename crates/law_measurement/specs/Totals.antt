@@ -17,6 +17,7 @@ use Rattle.measurement.specs.Lines.{begun_by, MeasureFinal}
 abbrev pub over_frames : Settings → List ℕ → (ℕ → SuperFrame) → (SuperFrame → ℕ) → ℕ
 over_frames s bytes frames f = sum_by (λ j. f (frames j)) (numbers (begun_by (symbols s bytes)))
 
+-- the sums of a stream that does not exist
 abbrev pub nothing : StreamSums
 nothing = record {
   bits = 0;

@@ -1,5 +1,4 @@
--- The flat gain law of channel tracking for a file: its cells, after the header, were received through a flat channel,
--- and are corrected by the scattered pilots of neighbouring symbols.
+-- The flat gain law of channel tracking: a file received through a flat channel is restored.
 use Rattle.std.specs.Prelude.{◌≡◌, ℕ, ◌<◌, ◌≤◌, List, flat_map, map, ℤ}
 use Rattle.spec_words.specs.Words.{numbers}
 use Rattle.mode_set.specs.StreamTable.{carriers}
@@ -48,6 +47,7 @@ pub record AreTracked (s : Settings) (inputs : Inputs) (bytes : List ℕ) : Type
             = weight_of (symbol_weights s (tracked_file s bytes) m) k;
       })
 
+-- the first symbols of a transmission through a flat channel are so restored
 abbrev pub BeginningsAreTracked : Type 0
 BeginningsAreTracked = (s : Settings) (inputs : Inputs) (a b : ℤ) (bytes : List ℕ) → IsFlat a b
     → HaveBegun s inputs a b bytes → AreTracked s inputs bytes
@@ -61,6 +61,7 @@ FilesAreTracked = (s : Settings) (inputs : Inputs) (a b : ℤ) (bytes : List ℕ
 abbrev pub IsWellTolerated : Type 0
 IsWellTolerated = (s : Shape) (h : Hierarchy) → 256 ≤ tolerance s h
 
+-- .. so a tracked file is within the tolerance of its transmission ..
 abbrev pub TrackedAreWithin : Type 0
 TrackedAreWithin = (s : Settings) (inputs : Inputs) (a b : ℤ) (bytes : List ℕ) → IsFlat a b → 4 ≤ symbols s bytes
     → HaveCome s inputs a b bytes → IsWithin s inputs (tracked_file s bytes)

@@ -25,10 +25,11 @@ count_of g = 100 + word g % 100
 abbrev pub shift_of : ℕ → Lcg → ℤ
 shift_of delta g = pos (word g % (2 * delta + 1)) -ℤ pos delta
 
--- a random length of a piece: 1 to 4096, and at most the rest
+-- a random length of a piece, 1 to 4096 bytes
 abbrev pub length_of : Lcg → ℕ
 length_of g = 1 + word g % 4096
 
+-- the length of the next piece, at most the rest
 abbrev pub piece_of : ℕ → Lcg → ℕ
 piece_of rest g = min rest (length_of g)
 
@@ -48,9 +49,10 @@ packet_words = 47
 unfoldable pub packet_of : Lcg → List ℕ
 packet_of g = map (packet_byte g) (range_with_len 0 188)
 
--- a random burst of errors: its length, 1 to 96 bytes, and the mask applied to each, 1 to 255
+-- the random length of a burst of errors, 1 to 96 bytes
 abbrev pub burst_length : Lcg → ℕ
 burst_length g = 1 + word g % 96
 
+-- the random mask applied to each byte of the burst, 1 to 255
 abbrev pub burst_mask : Lcg → ℕ
 burst_mask g = 1 + word (after 1 g) % 255

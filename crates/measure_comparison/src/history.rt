@@ -22,7 +22,7 @@ impl Model for KeptSymbol {
 }
 
 impl KeptSymbol {
-    /// Room for a symbol of so many carriers.
+    /// Space for a symbol of `carriers` carriers.
     pub(crate) fn new(alloc: Global, carriers: usize) -> Result<Self, AllocError>
         ensures cells { IfOk result (λ k. length k.cells ≡ carriers) }
         ensures weights { IfOk result (λ k. length k.weights ≡ carriers) }

@@ -91,7 +91,7 @@ impl KnownBits {
                 && (zero || self.before >= 6))
     }
 
-    /// Takes the bits of the next symbol, of so many steps.
+    /// Takes the bits of the next symbol, one for each of its steps.
     pub fn take_symbol(&mut self, steps: u32, to: &mut WaitBuf)
         requires enough { steps ≤ length self.old.waiting }
         requires few { steps ≤ 31752 }
@@ -108,7 +108,7 @@ impl KnownBits {
         self.before += steps as u64;
     }
 
-    /// Leaves the next symbol out, of so many steps.
+    /// Leaves out the next symbol, of `steps` steps.
     pub fn leave_out(&mut self, steps: u32)
         requires before { self.old.before < 2 ^ 60 }
         requires lag { self.old.lag < 2 ^ 60 }

@@ -31,7 +31,7 @@ fn move_bit(from: &mut BitBuf<BYTES>, to: &mut WaitBuf)
     to.push_bit(from.take_bit().unwrap());
 }
 
-/// Moves so many bytes.
+/// Moves `count` bytes.
 fn move_bytes(from: &mut BitBuf<BYTES>, to: &mut WaitBuf, count: usize)
     requires enough { 8 * count ≤ length from.old }
     requires room { length to.old + 8 * count ≤ 36864 }
@@ -43,7 +43,7 @@ fn move_bytes(from: &mut BitBuf<BYTES>, to: &mut WaitBuf, count: usize)
     }
 }
 
-/// Moves so many bits.
+/// Moves `count` bits.
 fn move_single_bits(from: &mut BitBuf<BYTES>, to: &mut WaitBuf, count: usize)
     requires enough { count ≤ length from.old }
     requires room { length to.old + count ≤ 36864 }
@@ -55,7 +55,7 @@ fn move_single_bits(from: &mut BitBuf<BYTES>, to: &mut WaitBuf, count: usize)
     }
 }
 
-/// Moves so many bits, whole bytes of them at once.
+/// Moves `count` bits, whole bytes of them at once.
 pub(crate) fn move_bits(from: &mut BitBuf<BYTES>, to: &mut WaitBuf, count: usize)
     requires enough { count ≤ length from.old }
     requires room { length to.old + count ≤ 36864 }
@@ -76,7 +76,7 @@ fn skip_bit<M: Carriers>(from: &mut BitBuf<BYTES>, stream: Stream, coder: &mut I
     coder.skip_bit(stream, from.take_bit().unwrap());
 }
 
-/// Moves the encoder of a stream on by so many bits.
+/// Moves the encoder of a stream on by `count` bits.
 pub(crate) fn skip_bits<M: Carriers>(
     from: &mut BitBuf<BYTES>,
     stream: Stream,

@@ -27,6 +27,7 @@ pub record AreFewOfSteps (x : StreamMeter) (j steps : ℕ) : Type 0 where
   pub words : 1632 * x.words.all.words ≤ steps
   pub before : x.words_before ≤ 5292 * (j + 1)
 
+-- the counts of a meter are within these bounds
 abbrev pub CountsAreFew : Type 0
 CountsAreFew = (x : StreamMeter) (s : Settings) (σ : Stream) (j from : ℕ) (c : List CostPair) (bits : List Bool)
     (reports : List ℕ) → Stands so_far x s σ j from c bits reports → AreFewOfSteps x j (length c)
@@ -40,6 +41,7 @@ RoomForSymbol = (x : StreamMeter) (ran : BranchState) (pairs : List CostPair) (s
     ≡ steps_before s σ n → n ≤ m + 3 → length pairs ≤ 31752
     → HasTaken pairs x.branch ran → length x.known.waiting + length ran.wait ≤ 127008
 
+-- there is space for the known bits that the decoder gives at the end
 abbrev pub RoomAtEnd : Type 0
 RoomAtEnd = (x : StreamMeter) (s : Settings) (σ : Stream) (j from m n : ℕ) (register : List Bool) (c : List CostPair)
     (bits : List Bool) (reports : List ℕ)

@@ -7,6 +7,7 @@ use Rattle.symbol_parameters.specs.Spans.{steps_before}
 use Rattle.measurement.specs.SuperFrames.{is_reported_in}
 use Rattle.measure_stream.specs.declared.reports.ReportCounts.{ReportCounts}
 
+-- the counts of no reports
 abbrev pub no_reports : ReportCounts
 no_reports = record { all = 0; current = 0; later = 0 }
 

@@ -35,7 +35,7 @@ fn give_byte(part: &mut BitWord, words: &mut MeasuredWords)
     }
 }
 
-/// Puts the lowest bits of a word, eight at most, behind those of the unfinished byte.
+/// Appends the lowest bits of a word, eight at most, to those of the unfinished byte.
 fn put_bits(part: &mut BitWord, words: &mut MeasuredWords, word: u16, count: u8)
     requires count { count ≤ 8 }
     requires few { length part.old < 8 }
@@ -92,7 +92,7 @@ fn pass_bit(
     put_bits(part, words, digit(bit), 1);
 }
 
-/// Hands on so many bytes of the bits that wait in a decoder.
+/// Passes on `count` bytes of the bits that wait in a decoder.
 fn pass_bytes(
     branch: &mut StreamBranch,
     known: &mut KnownBits,
@@ -111,7 +111,7 @@ fn pass_bytes(
     }
 }
 
-/// Hands on so many of the bits that wait in a decoder.
+/// Passes on `count` of the bits that wait in a decoder.
 fn pass_single_bits(
     branch: &mut StreamBranch,
     known: &mut KnownBits,

@@ -51,7 +51,7 @@ pub struct StreamMeter {
     pub reports: ReportCounts,
 }
 
-/// The number of the first word that is not told before the stream's words of the next super-frame begin.
+/// The number of the first word that is not reported before the stream's words of the next super-frame begin.
 fn limit_of(words_before: u64) -> u64
     ensures is { result ≡ words_before - 11 }
 {

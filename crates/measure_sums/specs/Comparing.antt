@@ -1,5 +1,5 @@
--- The sums of a symbol: its received cells compared with those of its remade labels (the measurements are those of ETSI
--- TR 101 290, 9.15 to 9.18; which cells count is this project's profile).
+-- The sums of a symbol: its received cells compared with those of its remade labels (ETSI TR 101 290, 9.15 to 9.18;
+-- which cells count is this project's profile).
 use Rattle.std.specs.Prelude.{◌≡◌, ℕ, ◌+◌, ◌^◌, ◌<◌, nat_lt, ◌&&◌, not, if◌then◌else◌, Bool, true, false, List, sum_by}
 use Rattle.std.specs.Prelude.{count_by, slice_index, get_or, nat_abs}
 use Rattle.std.specs.Bool.{beq}
@@ -102,14 +102,15 @@ bits_in x σ = over_counted x (λ q. count_by (carries x σ) (label_places x))
 abbrev pub is_wrong : Comparison → ℕ → ℕ → Bool
 is_wrong x q e = not (beq (hard_bit x.settings.shape x.settings.hierarchy (received x q) e) (x.labels q e))
 
--- the number of bits where the hard decision is wrong
+-- the number of bits with a wrong hard decision
 abbrev pub wrong_in : Comparison → Stream → ℕ
 wrong_in x σ = over_counted x (λ q. count_by (λ e. carries x σ e && is_wrong x q e) (label_places x))
 
--- all sums of the symbol
+-- the bits of a stream, and those with a wrong hard decision
 abbrev pub bit_sums : Comparison → Stream → BitSums
 bit_sums x σ = record { bits = bits_in x σ; wrong = wrong_in x σ }
 
+-- all sums of the symbol
 abbrev pub symbol_sums : Comparison → SymbolSums
 symbol_sums x = record {
   cells = cells_in x;

@@ -29,10 +29,11 @@ abbrev pub IsSafe : Shape → Hierarchy → ℕ → Type 0
 IsSafe s h safe = (label e : ℕ) (c : Cell) → squared_distance c (map_cell s h (is_set label)) < safe → e < label_bits s
     → hard_bit s h c e ≡ is_set label e
 
--- what a place adds whose cell counts and has no wrong bit
+-- the bits of a stream at a place whose cell counts and has no wrong bit
 abbrev pub right_bits : ℕ → BitSums
 right_bits bits = record { bits = bits; wrong = 0 }
 
+-- what such a place adds to all sums
 abbrev pub right_sums : Shape → Hierarchy → ℕ → ℕ → SymbolSums
 right_sums s h power error = record {
   cells = 1;

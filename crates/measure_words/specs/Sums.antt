@@ -14,6 +14,7 @@ use Rattle.measure_words.specs.declared.counts.WordSums.{WordSums}
 abbrev pub byte_apart : List ℕ → List ℕ → ℕ → ℕ
 byte_apart v w p = count_by (λ i. not (beq (is_set (slice_index v p) i) (is_set (slice_index w p) i))) (numbers 8)
 
+-- the counts of no words
 abbrev pub no_sums : WordSums
 no_sums = record { words = 0; clean = 0; corrected = 0; bad = 0; unphased = 0; repaired = 0 }
 

@@ -40,6 +40,7 @@ known_paths s known m σ = from_step (known_path (known σ)) (steps_before s σ 
 abbrev pub is_present : Settings → ℕ → Stream → Bool
 is_present s m σ = has_stream (settings_at s m).hierarchy σ
 
+-- the cells begin with the transmission
 abbrev pub is_zero : Start → Bool
 is_zero Zero = true
 is_zero Any = false

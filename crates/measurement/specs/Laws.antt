@@ -15,11 +15,12 @@ SumsStay = (s : Settings) (bytes more : List ℕ) (j : ℕ) (f : SuperFrame) →
 abbrev pub OneSums : Type 0
 OneSums = (s : Settings) (bytes : List ℕ) (j : ℕ) (f g : SuperFrame) → AreSums s bytes j f → AreSums s bytes j g → f ≡ g
 
--- the lines for bytes are a prefix of those for more bytes, so far and at the end
+-- the lines so far are a prefix of those for more bytes
 abbrev pub LiveBeginsLive : Type 0
 LiveBeginsLive = (s : Settings) (bytes more out longer : List ℕ) → MeasureLive s bytes out
     → MeasureLive s (bytes ++ more) longer → (rest : List ℕ) × (longer ≡ out ++ rest)
 
+-- the lines so far are a prefix of the lines at the end
 abbrev pub LiveBeginsFinal : Type 0
 LiveBeginsFinal = (s : Settings) (bytes more out longer : List ℕ) → MeasureLive s bytes out
     → MeasureFinal s (bytes ++ more) longer → (rest : List ℕ) × (longer ≡ out ++ rest)

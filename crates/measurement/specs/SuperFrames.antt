@@ -1,5 +1,4 @@
--- The sums of a super-frame (the measurements are those of ETSI TR 101 290, 9.15 to 9.18; a super-frame has 272
--- symbols, EN 300 744, 4.4 and 4.7).
+-- The sums of a super-frame (ETSI TR 101 290, 9.15 to 9.18; a super-frame has 272 symbols, EN 300 744, 4.4 and 4.7).
 use Rattle.std.specs.Prelude.{◌≡◌, ℕ, zero, suc, ◌+◌, ◌-◌, ◌*◌, ◌/◌, ◌<◌, ◌≤◌, min, nat_lt, nat_le, ◌&&◌, not}
 use Rattle.std.specs.Prelude.{if◌then◌else◌, Bool, List, Option, None, Some, count_by, sum_by, slice_index}
 use Rattle.std.specs.Bool.{beq}

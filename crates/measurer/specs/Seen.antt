@@ -15,6 +15,7 @@ pub record MeterState : Type 0 where
   pub lp : StreamMeter
   pub current : Current
 
+-- the meter of a stream
 abbrev pub meter_of : MeterState → Stream → StreamMeter
 meter_of x Hp = x.hp
 meter_of x Lp = x.lp

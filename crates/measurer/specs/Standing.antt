@@ -73,10 +73,12 @@ abbrev pub AreLines : Moment → Settings → List ℕ → List ℕ → Type 0
 AreLines so_far = MeasureLive
 AreLines at_end = MeasureFinal
 
+-- whether the input has ended
 abbrev pub is_end : Moment → Bool
 is_end so_far = false
 is_end at_end = true
 
+-- until the end, the parts of the measurer match the bytes
 abbrev pub GoesOn : Moment → MeasurerState → List ℕ → Type 0
 GoesOn so_far x bytes = IsMeasuring x bytes
 GoesOn at_end x bytes = ⊤

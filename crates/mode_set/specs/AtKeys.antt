@@ -58,34 +58,43 @@ if_present k value (Some d) = with_some (accepted k (value d))
     with_some (Ok v) = Ok (Some v)
     with_some (Err e) = Err e
 
--- the document's value of each key
+-- the mode, a mandatory key
 abbrev pub mode_in : Members → Result Mode SettingsError
 mode_in ms = required key.Mode (a_word mode_words) (at key.Mode ms)
 
+-- the constellation, a mandatory key
 abbrev pub shape_in : Members → Result Shape SettingsError
 shape_in ms = required key.Constellation (a_word shape_words) (at key.Constellation ms)
 
+-- the hierarchy, by default none
 abbrev pub hierarchy_in : Members → Result Hierarchy SettingsError
 hierarchy_in ms = with_default key.Hierarchy Flat (a_word hierarchy_words) (at key.Hierarchy ms)
 
+-- the code rate of HP, a mandatory key
 abbrev pub rate_hp_in : Members → Result Rate SettingsError
 rate_hp_in ms = required key.RateHp (a_word rate_words) (at key.RateHp ms)
 
+-- the code rate of LP, if present
 abbrev pub rate_lp_in : Members → Result (Option Rate) SettingsError
 rate_lp_in ms = if_present key.RateLp (a_word rate_words) (at key.RateLp ms)
 
+-- the guard interval, a mandatory key
 abbrev pub guard_in : Members → Result Guard SettingsError
 guard_in ms = required key.Guard (a_word guard_words) (at key.Guard ms)
 
+-- the cell identifier, 0 to 65535, if present
 abbrev pub cell_id_in : Members → Result (Option ℕ) SettingsError
 cell_id_in ms = if_present key.CellId (a_number 0 65535) (at key.CellId ms)
 
+-- the first register of the inner code, by default zero
 abbrev pub start_in : Members → Result Start SettingsError
 start_in ms = with_default key.Start Zero (a_word start_words) (at key.Start ms)
 
+-- the workers of the receiver, 1 to 16, by default 1
 abbrev pub workers_in : Members → Result ℕ SettingsError
 workers_in ms = with_default key.Workers 1 (a_number 1 16) (at key.Workers ms)
 
+-- the limit of symbols, by default 1000000
 abbrev pub max_symbols_in : Members → Result ℕ SettingsError
 max_symbols_in ms = with_default key.MaxSymbols 1000000 (a_number 1 4294967295) (at key.MaxSymbols ms)
 

@@ -45,9 +45,11 @@ fits Workers d = is_some (a_number 1 16 d)
 fits MaxSymbols d = is_some (a_number 1 4294967295 d)
 fits Plan d = is_some (a_plan d)
 
+-- a mandatory key is missing
 abbrev pub IsMissing : Key → Members → Type 0
 IsMissing k ms = IsTrue (is_required k) × (at k ms ≡ None)
 
+-- the value of a key is not allowed
 abbrev pub HasWrongValue : Key → Members → Type 0
 HasWrongValue k ms = IsSomeAnd (at k ms) (λ d. IsFalse (fits k d))
 
@@ -58,6 +60,7 @@ Clashes RateLp ms = (h : HierarchyOf) × ((r : Option Rate) ×
     ((hierarchy_in ms ≡ Ok h) × (rate_lp_in ms ≡ Ok r) × (is_some r ≡ is_flat h)))
 Clashes _ ms = ⊥
 
+-- the document has the fault that the error names
 abbrev pub HasCause : Members → SettingsError → Type 0
 HasCause ms NotToml = ⊥
 HasCause ms (Unknown n) = first_unknown ms ≡ Some n

@@ -14,6 +14,7 @@ is_flat Alpha1 = false
 is_flat Alpha2 = false
 is_flat Alpha4 = false
 
+-- the constellation is QPSK
 abbrev pub is_qpsk : Shape → Bool
 is_qpsk Qpsk = true
 is_qpsk Qam16 = false

@@ -24,6 +24,7 @@ same true false e = absurd (true≢false (sym e))
 same false true e = e
 same false false e = refl
 
+-- checked parameters satisfy the invariant of a plan's entry
 pub kept_together : (shape : Shape) (hierarchy : Hierarchy) (rate_lp : Option Rate)
     → fit_together shape hierarchy rate_lp ≡ true → IsKeptEntry shape hierarchy rate_lp
 kept_together shape hierarchy rate_lp e =
@@ -34,6 +35,7 @@ kept_together shape hierarchy rate_lp e =
           = same (is_some rate_lp) (not (is_flat hierarchy)) a.1;
     }
 
+-- checked settings satisfy their invariant
 pub kept_if : (shape : Shape) (hierarchy : Hierarchy) (rate_lp : Option Rate) (workers most : ℕ)
     → fit shape hierarchy rate_lp workers most ≡ true → IsKept shape hierarchy rate_lp workers most
 kept_if shape hierarchy rate_lp workers most e =
@@ -50,10 +52,12 @@ kept_if shape hierarchy rate_lp workers most e =
       some_symbol = leb-true 1 most c.1;
     }
 
+-- the first entries of a padded plan are the entries given
 pub take_front : (l m : List Entry) → take (length l) (l ++ m) ≡ l
 take_front [] m = refl
 take_front (x ∷ l) m = ap (λ (xs : List Entry). x ∷ xs) (take_front l m)
 
+-- a checked plan satisfies its invariant
 pub kept_plan : (es : List Entry) → is_plan es ≡ true → IsFilled (length es) (filled es)
 kept_plan es e =
     let a = and_parts (nat_le (length es) 16) (is_rising es) e in

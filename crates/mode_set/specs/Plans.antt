@@ -10,6 +10,7 @@ use Rattle.mode_set.specs.declared.plan.Plan.{Plan}
 abbrev pub entries_of : Plan → List Entry
 entries_of p = take p.count p.entries
 
+-- a plan without entries satisfies its invariant
 pub nothing_is_filled : IsFilled 0 (filled [])
 nothing_is_filled = record { few = omega arith; long = refl; rest = refl; rising = refl }
 

@@ -15,22 +15,28 @@ use Rattle.mode_set.specs.declared.modes.Guard.TheVariants.{G1of32, G1of16, G1of
 use Rattle.mode_set.specs.declared.modes.Start.{Start}
 use Rattle.mode_set.specs.declared.modes.Start.TheVariants.{Zero, Any}
 
+-- the names of the modes
 abbrev pub mode_words : List (List ℕ × Mode)
 mode_words = (codes "2k", M2k) ∷ (codes "8k", M8k) ∷ []
 
+-- the names of the constellations
 abbrev pub shape_words : List (List ℕ × Shape)
 shape_words = (codes "qpsk", Qpsk) ∷ (codes "16qam", Qam16) ∷ (codes "64qam", Qam64) ∷ []
 
+-- the names of the hierarchies
 abbrev pub hierarchy_words : List (List ℕ × Hierarchy)
 hierarchy_words = (codes "none", Flat) ∷ (codes "1", Alpha1) ∷ (codes "2", Alpha2) ∷ (codes "4", Alpha4) ∷ []
 
+-- the names of the code rates
 abbrev pub rate_words : List (List ℕ × Rate)
 rate_words = (codes "1/2", R1of2) ∷ (codes "2/3", R2of3) ∷ (codes "3/4", R3of4) ∷ (codes "5/6", R5of6)
     ∷ (codes "7/8", R7of8) ∷ []
 
+-- the names of the guard intervals
 abbrev pub guard_words : List (List ℕ × Guard)
 guard_words = (codes "1/32", G1of32) ∷ (codes "1/16", G1of16) ∷ (codes "1/8", G1of8) ∷ (codes "1/4", G1of4) ∷ []
 
+-- the names of the starts
 abbrev pub start_words : List (List ℕ × Start)
 start_words = (codes "zero", Zero) ∷ (codes "any", Any) ∷ []
 

@@ -36,6 +36,7 @@ pub record Transmitter : Type 0 where
 abbrev pub packets_in : ℕ → List Bool → ℕ
 packets_in taken waiting = (taken + length waiting) / 1632
 
+-- the visible state of these parts after this many symbols
 abbrev pub transmitter : Settings → ℕ → Parts → Transmitter
 transmitter s made parts = record {
   settings = s;

@@ -4,6 +4,7 @@ use Rattle.spec_words.specs.Words.{numbers}
 use Rattle.spec_words.specs.Bits.{is_set, spelled}
 use Rattle.forney.specs.Values.{values}
 
+-- the value of a bit at its place in a byte
 abbrev pub digit : Bool → ℕ → ℕ
 digit bit worth = cond bit worth 0
 

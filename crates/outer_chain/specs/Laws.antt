@@ -52,14 +52,16 @@ abbrev pub BurstPackets : Type 0
 BurstPackets = (packets : List (List ℕ)) (n : ℕ) (received out : List ℕ) → ArePackets packets
     → Bursts (outer_bytes packets n) received → Packets received out → out ≡ first_packets packets (n / 204 - 11)
 
--- a word has at most one nearest codeword, so bytes have one list of packets and one tally
+-- a word has at most one nearest codeword
 abbrev pub OneNear : Type 0
 OneNear = (word : List ℕ) (near other : Option (List ℕ)) → length word ≡ 204 → IsNear word near → IsNear word other
     → near ≡ other
 
+-- so bytes have one list of packets
 abbrev pub OnePackets : Type 0
 OnePackets = (bytes out other : List ℕ) → Packets bytes out → Packets bytes other → out ≡ other
 
+-- and one tally
 abbrev pub OneTally : Type 0
 OneTally = (bytes : List ℕ) (tally other : Tally) → Tallies bytes tally → Tallies bytes other → tally ≡ other
 

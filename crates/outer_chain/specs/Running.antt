@@ -13,16 +13,19 @@ use Rattle.outer_chain.specs.Receiving.{Receiver, Receives}
 abbrev pub no_words : Tally
 no_words = record { words = 0; clean = 0; corrected = 0; bad = 0; unphased = 0 }
 
+-- the word was a codeword
 abbrev pub is_clean_outcome : Outcome → Bool
 is_clean_outcome Clean = true
 is_clean_outcome (Corrected n) = false
 is_clean_outcome Bad = false
 
+-- the word was corrected
 abbrev pub is_corrected_outcome : Outcome → Bool
 is_corrected_outcome Clean = false
 is_corrected_outcome (Corrected n) = true
 is_corrected_outcome Bad = false
 
+-- the word has no nearest codeword
 abbrev pub is_bad_outcome : Outcome → Bool
 is_bad_outcome Clean = false
 is_bad_outcome (Corrected n) = false

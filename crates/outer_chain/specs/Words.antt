@@ -26,6 +26,7 @@ abbrev pub begins_group : Option (List ℕ) → Bool
 begins_group None = false
 begins_group (Some c) = slice_index c 0 == 0xB8
 
+-- the phase of the next word, counted modulo 8
 abbrev pub next_phase : Option ℕ → Option ℕ
 next_phase None = None
 next_phase (Some f) = Some ((f + 1) % 8)
@@ -79,6 +80,7 @@ unfoldable pub count : (ℕ → Bool) → ℕ → ℕ
 count test zero = 0
 count test (suc n) = cond (test n) 1 0 + count test n
 
+-- whether a word has a phase
 abbrev pub has : {A : Type 0} → Option A → Bool
 has None = false
 has (Some x) = true

@@ -27,9 +27,11 @@ in_mode M8k ks = flat_map (λ j. map (λ k. 1704 * j + k) ks) (numbers 4)
 unfoldable pub tps_carriers : Mode → List ℕ
 tps_carriers m = in_mode m tps_2k
 
+-- whether a carrier is a continual pilot
 unfoldable pub is_continual : Mode → ℕ → Bool
 is_continual m k = is_among (in_mode m continual_2k) k
 
+-- whether a carrier is a TPS carrier
 unfoldable pub is_tps : Mode → ℕ → Bool
 is_tps m k = is_among (tps_carriers m) k
 

@@ -10,9 +10,11 @@ use Rattle.pilots.specs.declared.payload_carriers.TheConstants.{PAYLOAD_CARRIERS
 unfoldable pub in_set : List ℕ → ℕ → Bool
 in_set words place = is_set (slice_index words (place / 64)) (place % 64)
 
+-- the set of the continual pilots
 unfoldable pub continual_set : List ℕ
 continual_set = CONTINUAL
 
+-- the set of the TPS carriers
 unfoldable pub tps_set : List ℕ
 tps_set = TPS
 

@@ -22,6 +22,7 @@ pub record IsNumbered (r : Rate) (t : ℕ) : Type 0 where
       + (if is_sent r Y t then 1 else 0)
   pub some : (is_sent r X t || is_sent r Y t) ≡ true
 
+-- every step has its sent bits numbered so
 abbrev pub StepsAreNumbered : Type 0
 StepsAreNumbered = (r : Rate) (t : ℕ) → IsNumbered r t
 
@@ -31,6 +32,7 @@ pub record IsShifted (r : Rate) (q t : ℕ) : Type 0 where
   pub numbers : (xy : ℕ → Coded) → number_of r xy (q * steps_in_period r + t)
       ≡ option_map (λ n. q * sent_in_period r + n) (number_of r xy t)
 
+-- the puncturing pattern repeats after each period
 abbrev pub PeriodsShift : Type 0
 PeriodsShift = (r : Rate) (q t : ℕ) → IsShifted r q t
 
@@ -44,6 +46,7 @@ pub record HasStep (r : Rate) (n : ℕ) : Type 0 where
   pub number : number_of r (kind_of (sent_as r n)) (step_of r n) ≡ Some n
   pub bit : (path : ℕ → Bool) → sent_bit r path n ≡ parity_of (sent_as r n) (window path (step_of r n))
 
+-- every sent bit has its step
 abbrev pub SentBitsHaveSteps : Type 0
 SentBitsHaveSteps = (r : Rate) (n : ℕ) → HasStep r n
 
@@ -55,6 +58,7 @@ pub record RunsAreLists (r : Rate) (path : ℕ → Bool) : Type 0 where
       → (front ≡ sent_bits r path a (a + length front)) × (rest ≡ sent_bits r path (a + length front) b)
   pub here : (a b k : ℕ) → k < b - a → get_or (sent_bits r path a b) k false ≡ sent_bit r path (a + k)
 
+-- the sent bits of every path form such runs
 abbrev pub SentBitsAreRuns : Type 0
 SentBitsAreRuns = (r : Rate) (path : ℕ → Bool) → RunsAreLists r path
 
@@ -63,6 +67,7 @@ pub record ListIsPath (p : List Bool) (t : ℕ) : Type 0 where
   pub x : parity_x (drop t p) ≡ parity_x (window (bit p) t)
   pub y : parity_y (drop t p) ≡ parity_y (window (bit p) t)
 
+-- every list of bits has the coded bits of its paths
 abbrev pub ListsArePaths : Type 0
 ListsArePaths = (p : List Bool) (t : ℕ) → ListIsPath p t
 

@@ -29,9 +29,11 @@ pub record IsEnd (r : Rate) (place : ℕ) (end : ℕ × ℕ) : Type 0 where
   pub within : end.1 < steps_in_period r
   pub next : (t : ℕ) → place ≡ t % steps_in_period r → end.1 ≡ (t + 8) % steps_in_period r
 
+-- the table has the count and the end of the first n places
 pub record AreEnds (r : Rate) (n : ℕ) (ends : List (ℕ × ℕ)) : Type 0 where
   pub at : (p : ℕ) → p < n → IsEnd r p (slice_index_or ends p (0, 0))
 
+-- the tables of the sent bits and of the ends, for all places of a period
 pub record IsPeriodTable (r : Rate) (words ends : List (ℕ × ℕ)) : Type 0 where
   pub all_words : AreAllWords r (256 * steps_in_period r) words
   pub all_ends : AreEnds r (steps_in_period r) ends

@@ -8,6 +8,7 @@ use Rattle.puncture.specs.SentBits.{Coded, X, Y, sent, bits_from}
 use Rattle.puncture.specs.declared.table.Sent.{Sent}
 use Rattle.puncture.specs.declared.table.Sent.TheVariants.{Both, OnlyX, OnlyY}
 
+-- whether two coded bits are the same
 abbrev pub same_coded : Coded → Coded → Bool
 same_coded (X i) (X j) = i == j
 same_coded (Y i) (Y j) = i == j
@@ -64,10 +65,11 @@ bits_of_steps r t (x ∷ xs) (y ∷ ys) = bits_of_step r t x y ++ bits_of_steps 
 abbrev pub needed : Rate → ℕ → ℕ
 needed r t = (if is_sent r X t then 1 else 0) + (if is_sent r Y t then 1 else 0)
 
--- the costs of the X and of the Y of step t, from the costs of its sent bits; a punctured bit costs 0
+-- the costs of the X of step t, from the costs of its sent bits; a punctured bit costs 0
 abbrev pub costs_of_x : Rate → ℕ → ℕ × ℕ → ℕ × ℕ → ℕ × ℕ
 costs_of_x r t first second = if is_sent r X t then first else (0, 0)
 
+-- the costs of the Y of step t, from the costs of its sent bits; a punctured bit costs 0
 abbrev pub costs_of_y : Rate → ℕ → ℕ × ℕ → ℕ × ℕ → ℕ × ℕ
 costs_of_y r t first second = if is_sent r Y t then (if is_sent r X t then second else first) else (0, 0)
 
@@ -76,12 +78,13 @@ abbrev pub costs_at : (ℕ → ℕ × ℕ) → Option ℕ → ℕ × ℕ
 costs_at costs None = (0, 0)
 costs_at costs (Some n) = costs n
 
--- the meaning of the code's type `Sent`
+-- whether the X of a step is sent
 abbrev pub has_x : Sent → Bool
 has_x Both = true
 has_x OnlyX = true
 has_x OnlyY = false
 
+-- whether the Y of a step is sent
 abbrev pub has_y : Sent → Bool
 has_y Both = true
 has_y OnlyX = false

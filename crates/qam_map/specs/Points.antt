@@ -40,10 +40,11 @@ points s h = let positive = zip (magnitudes s) (levels s h) in
 abbrev pub value_of : Shape → Hierarchy → List Bool → ℤ
 value_of s h y = option_map_or (λ (p : Point). p.value) (find (λ p. pointwise beq p.label y) (points s h)) (pos 0)
 
--- the label bits of the real axis, y0 y2 y4, and of the imaginary axis, y1 y3 y5
+-- the label bits of the real axis, y0 y2 y4
 abbrev pub real_bits : Shape → (ℕ → Bool) → List Bool
 real_bits s y = map (λ i. y (2 * i)) (numbers (label_bits s / 2))
 
+-- the label bits of the imaginary axis, y1 y3 y5
 abbrev pub imaginary_bits : Shape → (ℕ → Bool) → List Bool
 imaginary_bits s y = map (λ i. y (2 * i + 1)) (numbers (label_bits s / 2))
 

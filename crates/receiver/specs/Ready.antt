@@ -4,6 +4,7 @@ use Rattle.receiver.specs.Seen.{StreamState}
 use Rattle.receiver.specs.Words.{Started, AreFew}
 use Rattle.receiver.specs.declared.stream.StreamRx.{StreamRx}
 
+-- the visible state of a stream's receiver
 abbrev pub seen : StreamRx → StreamState
 seen x = record { branch = x.branch; outer = x.outer; counts = x.counts }
 

@@ -26,6 +26,7 @@ pub record ReceiverState : Type 0 where
   pub frames : FrameReader
   pub ended : Bool
 
+-- the state of a stream's receiver
 abbrev pub stream_of : ReceiverState → Stream → StreamState
 stream_of x Hp = x.hp
 stream_of x Lp = x.lp

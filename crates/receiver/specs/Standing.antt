@@ -16,6 +16,7 @@ use Rattle.reception.specs.Laws.{unfinished}
 use Rattle.inner_receiver.specs.Framing.{FrameStands}
 use Rattle.receiver.specs.Seen.{StreamState, ReceiverState, stream_of}
 
+-- whether the cells have ended
 abbrev pub is_end : Moment → Bool
 is_end so_far = false
 is_end at_end = true

@@ -33,10 +33,11 @@ abbrev pub SameLines : Type 0
 SameLines = (s t : Settings) (bytes : List ℕ) (r : Reception) → DifferInWorkers s t
     → (event_lines t bytes r ≡ event_lines s bytes r) × (closing_lines t bytes r ≡ closing_lines s bytes r)
 
--- the streams are the same, and so are the costs of each ..
+-- the streams are the same ..
 abbrev pub SameStreams : Type 0
 SameStreams = (s t : Settings) (σ : Stream) → DifferInWorkers s t → exists_in t σ ≡ exists_in s σ
 
+-- .. the costs of each stream are the same ..
 abbrev pub SameCosts : Type 0
 SameCosts = (s t : Settings) (bytes : List ℕ) (σ : Stream) → DifferInWorkers s t → costs t bytes σ ≡ costs s bytes σ
 

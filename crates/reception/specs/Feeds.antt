@@ -14,6 +14,7 @@ pub record Output : Type 0 where
   pub lp : List ℕ
   pub events : List Event
 
+-- the packet bytes of a stream
 abbrev pub packets_of : Output → Stream → List ℕ
 packets_of out Hp = out.hp
 packets_of out Lp = out.lp

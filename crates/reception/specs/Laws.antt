@@ -40,9 +40,11 @@ OneSymbolMore = (s : Settings) (bytes more : List ℕ) → EndsSymbol s bytes mo
 abbrev pub unfinished : Settings → List ℕ → List ℕ
 unfinished s bytes = drop (symbols s bytes * symbol_length s) bytes
 
+-- the tail is their number
 abbrev pub TailIsUnfinished : Type 0
 TailIsUnfinished = (s : Settings) (bytes : List ℕ) → length (unfinished s bytes) ≡ tail s bytes
 
+-- bytes within a symbol are appended to them
 abbrev pub MoreUnfinished : Type 0
 MoreUnfinished = (s : Settings) (bytes more : List ℕ) → IsWithin s bytes more → unfinished s (bytes ++ more)
     ≡ unfinished s bytes ++ more
@@ -58,10 +60,12 @@ abbrev pub CellsStay : Type 0
 CellsStay = (s : Settings) (bytes more : List ℕ) (m : ℕ) → m < symbols s bytes → symbol_cells s (bytes ++ more) m
     ≡ symbol_cells s bytes m
 
+-- more bytes leave the weights of whole symbols unchanged
 abbrev pub WeightsStay : Type 0
 WeightsStay = (s : Settings) (bytes more : List ℕ) (m : ℕ) → m < symbols s bytes → symbol_weights s (bytes ++ more) m
     ≡ symbol_weights s bytes m
 
+-- more bytes leave the TPS cells of whole symbols unchanged
 abbrev pub TpsCellsStay : Type 0
 TpsCellsStay = (s : Settings) (bytes more : List ℕ) (m : ℕ) → m < symbols s bytes → tps_cells s (bytes ++ more) m
     ≡ tps_cells s bytes m
@@ -78,14 +82,17 @@ abbrev pub CostsGrow : Type 0
 CostsGrow = (s : Settings) (bytes more : List ℕ) (σ : Stream) → (rest : List CostPair)
     × (costs s (bytes ++ more) σ ≡ costs s bytes σ ++ rest)
 
+-- bytes within a symbol add no costs
 abbrev pub SameCosts : Type 0
 SameCosts = (s : Settings) (bytes more : List ℕ) (σ : Stream) → IsWithin s bytes more → costs s (bytes ++ more) σ
     ≡ costs s bytes σ
 
+-- bytes that complete a symbol add its costs
 abbrev pub NextCosts : Type 0
 NextCosts = (s : Settings) (bytes more : List ℕ) (σ : Stream) → EndsSymbol s bytes more → costs s (bytes ++ more) σ
     ≡ costs s bytes σ ++ symbol_costs s (bytes ++ more) σ (symbols s bytes)
 
+-- without bytes there are no costs
 abbrev pub NoCosts : Type 0
 NoCosts = (s : Settings) (σ : Stream) → costs s [] σ ≡ []
 
@@ -128,6 +135,7 @@ NextEvents = (s : Settings) (bytes more : List ℕ) (before new : Stream → Lis
     → events s (symbols s bytes + 1) (λ σ. before σ ++ new σ) ≡ events s (symbols s bytes) before
     ++ (map (event_at Hp) (new Hp) ++ map (event_at Lp) (new Lp))
 
+-- without symbols there are no reports
 abbrev pub NoEvents : Type 0
 NoEvents = (s : Settings) (reports : Stream → List ℕ) → events s 0 reports ≡ []
 
@@ -141,10 +149,11 @@ pub record AreSame (r q : Reception) : Type 0 where
   pub read : r.read ≡ q.read
   pub bad : r.bad ≡ q.bad
 
--- bytes have one live and one final output
+-- bytes have one live output
 abbrev pub OneLive : Type 0
 OneLive = (s : Settings) (bytes : List ℕ) (r q : Reception) → Live s bytes r → Live s bytes q → AreSame r q
 
+-- bytes have one final output
 abbrev pub OneFinal : Type 0
 OneFinal = (s : Settings) (bytes : List ℕ) (r q : Reception) → Final s bytes r → Final s bytes q → AreSame r q
 
@@ -155,6 +164,7 @@ pub record Grows (r q : Reception) : Type 0 where
   pub read : r.read ≤ q.read
   pub bad : r.bad ≤ q.bad
 
+-- more bytes only extend the live output
 abbrev pub LiveGrows : Type 0
 LiveGrows = (s : Settings) (bytes more : List ℕ) (r q : Reception) → Live s bytes r → Live s (bytes ++ more) q
     → Grows r q
@@ -166,11 +176,13 @@ pub record Ends (r q : Reception) : Type 0 where
   pub read : q.read ≡ r.read
   pub bad : q.bad ≡ r.bad
 
+-- the final output extends the live one of the same bytes
 abbrev pub FinalEndsLive : Type 0
 FinalEndsLive = (s : Settings) (bytes : List ℕ) (r q : Reception) → Live s bytes r → Final s bytes q → Ends r q
 
 -- ---- no bytes
 
+-- the counts of no words
 abbrev pub no_words : Tally
 no_words = record { words = 0; clean = 0; corrected = 0; bad = 0; unphased = 0 }
 
@@ -182,5 +194,6 @@ nothing = record { packets = λ σ. []; reports = λ σ. []; tally = λ σ. no_w
 abbrev pub NothingGiven : Type 0
 NothingGiven = (most : ℕ) (start : Start) → Given most (start_of start) [] []
 
+-- without bytes there is no live output
 abbrev pub NothingLive : Type 0
 NothingLive = (s : Settings) → Live s [] nothing

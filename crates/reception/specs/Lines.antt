@@ -29,6 +29,7 @@ events_of s reports m σ = map (event_at σ)
 unfoldable pub events : Settings → ℕ → (Stream → List ℕ) → List Event
 events s n reports = flat_map (λ m. events_of s reports m Hp ++ events_of s reports m Lp) (numbers n)
 
+-- the counts of a stream: its words, and its unmerged reports
 abbrev pub stream_counts : Tally → ℕ → StreamCounts
 stream_counts t unmerged = record {
   words = t.words;

@@ -6,10 +6,11 @@ use Rattle.reception.specs.Streams.{Reception, Live, Final}
 use Rattle.reception.specs.Lines.{event_lines}
 use Rattle.reception.specs.Laws.{IsWithin}
 
--- bytes have a live output and a final one
+-- bytes have a live output
 abbrev pub SomeLive : Type 0
 SomeLive = (s : Settings) (bytes : List ℕ) → (r : Reception) × Live s bytes r
 
+-- bytes have a final output
 abbrev pub SomeFinal : Type 0
 SomeFinal = (s : Settings) (bytes : List ℕ) → (r : Reception) × Final s bytes r
 
@@ -18,10 +19,12 @@ pub record Begins (s : Settings) (bytes longer : List ℕ) (r q : Reception) : T
   pub packets : (σ : Stream) → (rest : List ℕ) × (q.packets σ ≡ r.packets σ ++ rest)
   pub lines : (rest : List ℕ) × (event_lines s longer q ≡ event_lines s bytes r ++ rest)
 
+-- the live output is a prefix of that of longer bytes
 abbrev pub LiveBeginsLive : Type 0
 LiveBeginsLive = (s : Settings) (bytes more : List ℕ) (r q : Reception) → Live s bytes r → Live s (bytes ++ more) q
     → Begins s bytes (bytes ++ more) r q
 
+-- the live output is a prefix of the final one of longer bytes
 abbrev pub LiveBeginsFinal : Type 0
 LiveBeginsFinal = (s : Settings) (bytes more : List ℕ) (r q : Reception) → Live s bytes r → Final s (bytes ++ more) q
     → Begins s bytes (bytes ++ more) r q

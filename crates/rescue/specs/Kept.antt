@@ -9,6 +9,7 @@ use Rattle.rescue.specs.Seen.{StreamState}
 use Rattle.rescue.specs.Standing.{StreamStands}
 use Rattle.rescue.specs.declared.stream.StreamRx.{StreamRx}
 
+-- the visible state of a stream's receiver
 abbrev pub seen : StreamRx → StreamState
 seen x = record {
   branch = x.branch;

@@ -15,11 +15,12 @@ pub record AreSame (r q : Rescue) : Type 0 where
   pub reports : (σ : Stream) → r.reports σ ≡ q.reports σ
   pub tally : (σ : Stream) → r.tally σ ≡ q.tally σ
 
--- bytes have one output so far, and one at the end
+-- bytes have one output so far
 abbrev pub OneSoFar : Type 0
 OneSoFar = (s : Settings) (bytes : List ℕ) (r q : Rescue) → RescuesSoFar s bytes r → RescuesSoFar s bytes q
     → AreSame r q
 
+-- bytes have one output at the end
 abbrev pub OneAtEnd : Type 0
 OneAtEnd = (s : Settings) (bytes : List ℕ) (r q : Rescue) → RescuesAtEnd s bytes r → RescuesAtEnd s bytes q
     → AreSame r q
@@ -28,10 +29,11 @@ OneAtEnd = (s : Settings) (bytes : List ℕ) (r q : Rescue) → RescuesAtEnd s b
 abbrev pub NothingSoFar : Type 0
 NothingSoFar = (s : Settings) → RescuesSoFar s [] nothing
 
--- bytes always have an output so far and one at the end
+-- bytes always have an output so far
 abbrev pub SomeSoFar : Type 0
 SomeSoFar = (s : Settings) (bytes : List ℕ) → (r : Rescue) × RescuesSoFar s bytes r
 
+-- bytes always have an output at the end
 abbrev pub SomeAtEnd : Type 0
 SomeAtEnd = (s : Settings) (bytes : List ℕ) → (r : Rescue) × RescuesAtEnd s bytes r
 
@@ -42,6 +44,7 @@ pub record Ends (r q : Rescue) : Type 0 where
   pub packets : (σ : Stream) → (rest : List ℕ) × (q.packets σ ≡ r.packets σ ++ rest)
   pub reports : (σ : Stream) → q.reports σ ≡ r.reports σ
 
+-- the output at the end extends the output so far of the same bytes
 abbrev pub AtEndEndsSoFar : Type 0
 AtEndEndsSoFar = (s : Settings) (bytes : List ℕ) (r q : Rescue) → RescuesSoFar s bytes r → RescuesAtEnd s bytes q
     → Ends r q
@@ -52,10 +55,12 @@ pub record Begins (s : Settings) (bytes longer : List ℕ) (r q : Rescue) : Type
   pub reports : (σ : Stream) → (rest : List ℕ) × (q.reports σ ≡ r.reports σ ++ rest)
   pub lines : (rest : List ℕ) × (event_lines s longer q ≡ event_lines s bytes r ++ rest)
 
+-- the output so far is a prefix of that of longer bytes
 abbrev pub SoFarBeginsSoFar : Type 0
 SoFarBeginsSoFar = (s : Settings) (bytes more : List ℕ) (r q : Rescue) → RescuesSoFar s bytes r
     → RescuesSoFar s (bytes ++ more) q → Begins s bytes (bytes ++ more) r q
 
+-- the output so far is a prefix of the output at the end of longer bytes
 abbrev pub SoFarBeginsAtEnd : Type 0
 SoFarBeginsAtEnd = (s : Settings) (bytes more : List ℕ) (r q : Rescue) → RescuesSoFar s bytes r
     → RescuesAtEnd s (bytes ++ more) q → Begins s bytes (bytes ++ more) r q
@@ -67,11 +72,12 @@ WholeSymbolsGive = (s : Settings) (bytes more : List ℕ) (r : Rescue) → IsWit
 
 -- ---- workers
 
--- settings that differ only in the number of workers give the same output, so far and at the end ..
+-- settings that differ only in the number of workers give the same output so far ..
 abbrev pub SameSoFar : Type 0
 SameSoFar = (s t : Settings) (bytes : List ℕ) (r : Rescue) → DifferInWorkers s t → RescuesSoFar s bytes r
     → RescuesSoFar t bytes r
 
+-- .. and the same output at the end ..
 abbrev pub SameAtEnd : Type 0
 SameAtEnd = (s t : Settings) (bytes : List ℕ) (r : Rescue) → DifferInWorkers s t → RescuesAtEnd s bytes r
     → RescuesAtEnd t bytes r

@@ -35,6 +35,7 @@ pub record HasPushed (xs : List CostPair) (new : MarginState) (a : Option (List 
   pub step : (more ≡ []) ⊎ (256 ≤ length new.waiting)
   pub appends : Appends ms more queue longer
 
+-- the push of these pairs appends to the queue the byte margins that become known
 abbrev pub Pushes : List CostPair → MarginState → MarginState → List ℕ → List ℕ → Type 0
 Pushes xs old new queue longer = (a : Option (List Bool)) (c : List CostPair) (ms : List ℕ) → margins.Stands old a c ms
     → HasPushed xs new a c ms queue longer
@@ -45,6 +46,7 @@ pub record HasEndedMargins (a : Option (List Bool)) (c : List CostPair) (ms queu
   pub whole : AreMargins a c (ms ++ more)
   pub appends : Appends ms more queue longer
 
+-- at the end the margins of all pending steps are appended to the queue
 abbrev pub EndsMargins : MarginState → List ℕ → List ℕ → Type 0
 EndsMargins old queue longer = (a : Option (List Bool)) (c : List CostPair) (ms : List ℕ) → margins.Stands old a c ms
     → HasEndedMargins a c ms queue longer

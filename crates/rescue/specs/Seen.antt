@@ -26,6 +26,7 @@ pub record RescueState : Type 0 where
   pub lp : StreamState
   pub ended : Bool
 
+-- the state of a stream's receiver
 abbrev pub stream_of : RescueState → Stream → StreamState
 stream_of x Hp = x.hp
 stream_of x Lp = x.lp

@@ -17,6 +17,7 @@ use Rattle.inner_receiver.specs.Branches.{HasGiven}
 use Rattle.rescue.specs.Streams.{Rescue, RescuesAt}
 use Rattle.rescue.specs.Seen.{StreamState, RescueState, stream_of}
 
+-- whether the cells have ended
 abbrev pub is_end : Moment → Bool
 is_end so_far = false
 is_end at_end = true

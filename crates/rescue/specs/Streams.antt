@@ -35,6 +35,7 @@ RescuesSoFar = RescuesAt so_far
 abbrev pub RescuesAtEnd : Settings → List ℕ → Rescue → Type 0
 RescuesAtEnd = RescuesAt at_end
 
+-- the counts of no words
 abbrev pub no_words : RescueTally
 no_words = record { words = 0; clean = 0; corrected = 0; rescued = 0; bad = 0; unphased = 0 }
 

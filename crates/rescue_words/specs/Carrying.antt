@@ -4,22 +4,26 @@ use Rattle.forney.specs.Values.{values, stream_of}
 use Rattle.forney.specs.Interleaving.{deinterleaved}
 use Rattle.forney.specs.Delays.{Delays, Deinterleaves}
 
+-- four deinterleavers, one for each byte of a margin
 pub record MarginDelays : Type 0 where
   pub first : Delays
   pub second : Delays
   pub third : Delays
   pub fourth : Delays
 
--- the bytes of a number below 2^32, lowest first
+-- bits 0 to 7 of a margin, a number below 2^32
 abbrev pub first_byte : ℕ → ℕ
 first_byte m = m % 256
 
+-- bits 8 to 15 of a margin
 abbrev pub second_byte : ℕ → ℕ
 second_byte m = m / 256 % 256
 
+-- bits 16 to 23 of a margin
 abbrev pub third_byte : ℕ → ℕ
 third_byte m = m / 65_536 % 256
 
+-- bits 24 to 31 of a margin
 abbrev pub fourth_byte : ℕ → ℕ
 fourth_byte m = m / 16_777_216 % 256
 

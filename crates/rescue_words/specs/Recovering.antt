@@ -31,24 +31,28 @@ pub record HasRecovered (word margins : List ℕ) (slot : WordSlot) (counts_as :
   pub outcome_is : slot.outcome ≡ outcome_of word recovery
   pub kind_is : counts_as ≡ kind_of word recovery
 
+-- the word counts as clean
 abbrev pub is_clean_kind : WordKind → Bool
 is_clean_kind kind.Clean = true
 is_clean_kind kind.Corrected = false
 is_clean_kind kind.Rescued = false
 is_clean_kind kind.Bad = false
 
+-- the word counts as corrected
 abbrev pub is_corrected_kind : WordKind → Bool
 is_corrected_kind kind.Clean = false
 is_corrected_kind kind.Corrected = true
 is_corrected_kind kind.Rescued = false
 is_corrected_kind kind.Bad = false
 
+-- the word counts as rescued
 abbrev pub is_rescued_kind : WordKind → Bool
 is_rescued_kind kind.Clean = false
 is_rescued_kind kind.Corrected = false
 is_rescued_kind kind.Rescued = true
 is_rescued_kind kind.Bad = false
 
+-- the word counts as bad
 abbrev pub is_bad_kind : WordKind → Bool
 is_bad_kind kind.Clean = false
 is_bad_kind kind.Corrected = false

@@ -27,11 +27,13 @@ is_corrected word (Nearest c) = not (distance word c == 0)
 is_corrected word (Rescued c) = false
 is_corrected word Lost = false
 
+-- the word has no nearest codeword, but was rescued
 abbrev pub is_rescued : Recovery → Bool
 is_rescued (Nearest c) = false
 is_rescued (Rescued c) = true
 is_rescued Lost = false
 
+-- the word could not be recovered
 abbrev pub is_lost : Recovery → Bool
 is_lost (Nearest c) = false
 is_lost (Rescued c) = false

@@ -14,6 +14,7 @@ pub record WordsState : Type 0 where
   pub margins : MarginState
   pub counts : RescueCounts
 
+-- the counts of this tally
 abbrev pub counts_of : RescueTally → RescueCounts
 counts_of t = record {
   words = t.words;

@@ -24,6 +24,7 @@ abbrev pub first_powers : ℕ → List ℕ
 first_powers zero = []
 first_powers (suc n) = power n ∷ first_powers n
 
+-- all coefficients are bytes
 abbrev pub AreBytes : List ℕ → Type 0
 AreBytes = AllByRecursion (λ b. b < 256)
 

@@ -16,6 +16,7 @@ pub record IsCodewordOf (message word : List ℕ) : Type 0 where
   pub code : IsCodeword word
   pub begins : take 188 word ≡ message
 
+-- every message of 188 bytes has a codeword
 abbrev pub MessageHasCodeword : Type 0
 MessageHasCodeword = (message : List ℕ) → length message ≡ 188 → AreBytes message
     → IsCodewordOf message (codeword message)

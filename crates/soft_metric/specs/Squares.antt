@@ -7,10 +7,11 @@ use Rattle.std.specs.Int.{abs_diff}
 abbrev pub scaled : ℕ → ℕ
 scaled square = min 4095 (square / 2 ^ 18)
 
--- the squared distance to level k on the value's side of 0, and on the other side
+-- the squared distance to level k on the value's side of 0
 abbrev pub near : List ℕ → ℕ → ℕ → ℕ
 near levels m k = abs_diff m (slice_index levels k) ^ 2
 
+-- the squared distance to level k on the other side of 0
 abbrev pub far : List ℕ → ℕ → ℕ → ℕ
 far levels m k = (m + slice_index levels k) ^ 2
 
@@ -32,10 +33,11 @@ pub record AreAxisCosts (levels : List ℕ) (positive : Bool) (m : ℕ) (cs : Li
   pub inner_zero : (pair_at cs 2).0 ≡ scaled (min (near levels m 0) (near levels m 3))
   pub inner_one : (pair_at cs 2).1 ≡ scaled (min (near levels m 1) (near levels m 2))
 
--- a value of an axis modulo 2^16, as in the lanes: its magnitude, and whether it is at least 0
+-- the magnitude of a value of an axis, which lanes have modulo 2^16
 abbrev pub lane_magnitude : ℕ → ℕ
 lane_magnitude u = min u ((65536 - u) % 65536)
 
+-- whether this value is at least 0
 abbrev pub lane_positive : ℕ → Bool
 lane_positive u = nat_lt u 32768
 
@@ -48,22 +50,26 @@ abbrev pub near_two : List ℕ → ℕ → ℕ → ℕ → ℕ
 near_two levels u j k = min (abs_diff (lane_magnitude u) (slice_index levels j))
     (abs_diff (lane_magnitude u) (slice_index levels k))
 
+-- the lowest distance to the four levels on the value's side of 0
 abbrev pub near_four : List ℕ → ℕ → ℕ
 near_four levels u = min (near_two levels u 0 1) (near_two levels u 2 3)
 
+-- the distance to the innermost level on the other side of 0
 abbrev pub far_one : List ℕ → ℕ → ℕ
 far_one levels u = lane_magnitude u + slice_index levels 3
 
--- the costs of values 0 and 1 of bit 0, 1 or 2 of an axis, from distances
+-- the cost of value 0 of bit 0, 1 or 2 of an axis, from distances
 abbrev pub lane_zero : List ℕ → ℕ → ℕ → ℕ
 lane_zero levels zero u = if lane_positive u then scaled (near_four levels u ^ 2) else scaled (far_one levels u ^ 2)
 lane_zero levels (suc zero) u = scaled (near_two levels u 0 1 ^ 2)
 lane_zero levels (suc (suc axis)) u = scaled (near_two levels u 0 3 ^ 2)
 
+-- the cost of value 1 of bit 0, 1 or 2 of an axis, from distances
 abbrev pub lane_one : List ℕ → ℕ → ℕ → ℕ
 lane_one levels zero u = if lane_positive u then scaled (far_one levels u ^ 2) else scaled (near_four levels u ^ 2)
 lane_one levels (suc zero) u = scaled (near_two levels u 2 3 ^ 2)
 lane_one levels (suc (suc axis)) u = scaled (near_two levels u 1 2 ^ 2)
 
+-- both costs of a bit of an axis
 abbrev pub lane_pair : List ℕ → ℕ → ℕ → ℕ × ℕ
 lane_pair levels axis u = (lane_zero levels axis u, lane_one levels axis u)

@@ -33,6 +33,7 @@ NoWeightLeavesNothing = (pair : ℕ × ℕ) → weighted pair 0 ≡ (0, 0)
 one_is_small : (c w : ℕ) → c ≤ 4095 → w ≤ full_weight → c * w / full_weight ≤ 4095
 one_is_small c w small within = div-le_of_le-mul full_weight (omega (arith, mul-le c w 4095 full_weight small within))
 
+-- weighted costs are at most 4095
 pub weighted_is_small : (pair : ℕ × ℕ) (weight : ℕ) → IsSmallPair pair → weight ≤ full_weight
     → IsSmallPair (weighted pair weight)
 weighted_is_small pair weight small within = (

@@ -68,6 +68,7 @@ with_source ins.Hp s m = record m { hp = s }
 with_source ins.Lp s m = record m { lp = s }
 with_source ins.Cells s m = record m { cells = s }
 
+-- the same station with another sink at the port
 abbrev pub with_sink : OutPort → Sink → Meaning → Meaning
 with_sink outs.Cells s m = record m { cells_out = s }
 with_sink outs.Hp s m = record m { hp_out = s }
@@ -87,13 +88,15 @@ with_written outs.Report s m = record m { report = s }
 abbrev pub flushed : Meaning → Meaning
 flushed m = record m { pending = false }
 
--- the same station with another count of faults
+-- the same station with another count of read faults
 abbrev pub with_read_faults : ℕ → Meaning → Meaning
 with_read_faults n m = record m { read_faults = n }
 
+-- the same station with another count of write faults
 abbrev pub with_write_faults : ℕ → Meaning → Meaning
 with_write_faults n m = record m { write_faults = n }
 
+-- the same station with another count of close faults
 abbrev pub with_close_faults : ℕ → Meaning → Meaning
 with_close_faults n m = record m { close_faults = n }
 
@@ -117,9 +120,11 @@ attached_source name bytes s = record { asked = Some name; attached = true; left
 abbrev pub read_source : ℕ → Source → Source
 read_source n s = record s { left = drop n s.left }
 
+-- a name was requested at an output port
 abbrev pub asked_sink : List ℕ → Sink → Sink
 asked_sink name s = record s { asked = Some name }
 
+-- and its file is open for writing, without bytes
 abbrev pub created_sink : List ℕ → Sink → Sink
 created_sink name s = record { asked = Some name; created = true; closed = false; written = [] }
 
@@ -127,6 +132,7 @@ created_sink name s = record { asked = Some name; created = true; closed = false
 abbrev pub written_sink : Bool → List ℕ → Sink → Sink
 written_sink tells bytes s = record s { written = if tells then s.written ++ bytes else s.written }
 
+-- the file of an output port is closed
 abbrev pub closed_sink : Sink → Sink
 closed_sink s = record s { closed = true }
 
@@ -134,6 +140,7 @@ closed_sink s = record s { closed = true }
 abbrev pub no_source : Source
 no_source = record { asked = None; attached = false; left = [] }
 
+-- an output port where no name was requested
 abbrev pub no_sink : Sink
 no_sink = record { asked = None; created = false; closed = false; written = [] }
 

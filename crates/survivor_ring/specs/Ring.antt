@@ -35,6 +35,7 @@ moved mask shift f k = mask k && (f k || (not (nat_lt k shift) && f (k - shift))
 abbrev pub leads : ℕ → ℕ → ℕ → ℕ → Bool
 leads set word m n = is_set set n && cond (m % 2 == 1) (is_set word n) (not (is_set word n))
 
+-- the predecessors of the states of a set, by their decisions
 pub record AreBefore (set word result : ℕ) : Type 0 where
   pub each : (m : ℕ) → m < 64 → is_set result m ≡ (leads set word m (m / 2) || leads set word m (m / 2 + 32))
 

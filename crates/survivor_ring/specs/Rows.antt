@@ -25,6 +25,7 @@ Agree rows live first place states = (n : ℕ) (d e : Vec Bool) → n < states �
     → slice_index_or (slice_index_or rows n d).items place false
     ≡ slice_index_or (slice_index_or rows first e).items place false
 
+-- each row has lost its first `number` bits
 pub record EachShifted (old new : Rows) (number count : ℕ) (states : ℕ) : Type 0 where
   pub each : (n : ℕ) (d e : Vec Bool) → n < states → take (count - number) (slice_index_or new n d).items
       ≡ drop number (take count (slice_index_or old n e).items)

@@ -11,16 +11,19 @@ use Rattle.symbol_parameters.specs.Spans.{words_before}
 
 -- ---- settings
 
--- the same in all super-frames
+-- the mode is the same in all super-frames
 abbrev pub ModeStays : Type 0
 ModeStays = (s : Settings) (j : ℕ) → (settings_in s j).mode ≡ s.mode
 
+-- the guard interval is the same in all super-frames
 abbrev pub GuardStays : Type 0
 GuardStays = (s : Settings) (j : ℕ) → (settings_in s j).guard ≡ s.guard
 
+-- the cell identifier is the same in all super-frames
 abbrev pub CellIdStays : Type 0
 CellIdStays = (s : Settings) (j : ℕ) → (settings_in s j).cell_id ≡ s.cell_id
 
+-- the start is the same in all super-frames
 abbrev pub StartStays : Type 0
 StartStays = (s : Settings) (j : ℕ) → (settings_in s j).start ≡ s.start
 
@@ -40,19 +43,21 @@ LpExists = (s : Settings) → exists_in s Lp ≡ has_lp s
 abbrev pub StreamsExist : Type 0
 StreamsExist = (s : Settings) (σ : Stream) → IsTrue (has_stream s.hierarchy σ) → IsTrue (exists_in s σ)
 
--- without a plan all settings stay, and the streams are those of the settings
+-- without a plan all settings stay
 abbrev pub SettingsStay : Type 0
 SettingsStay = (s : Settings) (j : ℕ) → entries_of s.plan ≡ [] → settings_in s j ≡ s
 
+-- without a plan the streams are those of the settings
 abbrev pub ConstantStreams : Type 0
 ConstantStreams = (s : Settings) (σ : Stream) → entries_of s.plan ≡ [] → exists_in s σ ≡ has_stream s.hierarchy σ
 
 -- ---- steps
 
--- symbol after symbol
+-- there are no steps before symbol 0
 abbrev pub NoSteps : Type 0
 NoSteps = (s : Settings) (σ : Stream) → steps_before s σ 0 ≡ 0
 
+-- each symbol adds its steps
 abbrev pub StepsOfOneMore : Type 0
 StepsOfOneMore = (s : Settings) (σ : Stream) (m : ℕ) → steps_before s σ (m + 1) ≡ steps_before s σ m + steps_of s σ m
 
@@ -73,6 +78,7 @@ pub record IsThere (s : Settings) (σ : Stream) (j : ℕ) : Type 0 where
   pub here : IsTrue (has_stream (settings_in s j).hierarchy σ)
   pub whole : IsTrue (exists_in s σ)
 
+-- only a stream that exists has steps
 abbrev pub StepsAreOfAStream : Type 0
 StepsAreOfAStream = (s : Settings) (σ : Stream) (j : ℕ) → 0 < need (settings_in s j) σ → IsThere s σ j
 
@@ -83,10 +89,11 @@ ConstantSteps = (s : Settings) (σ : Stream) (m : ℕ) → ((j : ℕ) → settin
 
 -- ---- words
 
--- super-frame after super-frame
+-- there are no outer words before super-frame 0
 abbrev pub NoWords : Type 0
 NoWords = (s : Settings) (σ : Stream) → words_before s σ 0 ≡ 0
 
+-- each super-frame adds its outer words
 abbrev pub WordsOfOneMore : Type 0
 WordsOfOneMore = (s : Settings) (σ : Stream) (n : ℕ) → words_before s σ (n + 1) ≡ words_before s σ n + words_in s σ n
 

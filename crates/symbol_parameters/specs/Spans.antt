@@ -33,9 +33,10 @@ pub record IsStepOf (s : Settings) (σ : Stream) (m t : ℕ) : Type 0 where
   pub from : steps_before s σ m ≤ t
   pub to : t < steps_before s σ (m + 1)
 
--- the outer words of a stream in super-frame j, and in the first n super-frames
+-- the outer words of a stream in super-frame j
 abbrev pub words_in : Settings → Stream → ℕ → ℕ
 words_in s σ j = words_per_super_frame (settings_in s j) σ
 
+-- the outer words of a stream in the first n super-frames
 unfoldable pub words_before : Settings → Stream → ℕ → ℕ
 words_before s σ n = sum_by (words_in s σ) (numbers n)

@@ -1,5 +1,5 @@
--- The fields that bits with a few errors signal (this project's choice: two errors are corrected, as many as the code
--- of EN 300 744, 4.6.2.11 can correct).
+-- The fields that bits with a few errors signal (this project's choice: two errors are corrected, as many as EN 300
+-- 744, 4.6.2.11 allows).
 use Rattle.std.specs.Prelude.{◌≡◌, ◌≤◌, Bool, List, length}
 use Rattle.tps_bch.specs.Bch.{IsTpsWord, bit_distance}
 use Rattle.tps_word.specs.Tps.{tps_word, IsValid}

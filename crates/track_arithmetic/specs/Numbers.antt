@@ -4,21 +4,27 @@ use Rattle.std.specs.Prelude.{get_or, ℤ, pos, neg_ℤ, nat_abs, ◌+ℤ◌, �
 use Rattle.std.specs.Int.{int_div_euclid, saturate_signed, w16}
 use Rattle.track_arithmetic.specs.declared.complex.Complex.{Complex}
 
+-- zero
 abbrev pub nothing : Complex
 nothing = record { re = pos 0; im = pos 0 }
 
+-- the sum
 abbrev pub plus : Complex → Complex → Complex
 plus x y = record { re = x.re +ℤ y.re; im = x.im +ℤ y.im }
 
+-- the difference
 abbrev pub minus : Complex → Complex → Complex
 minus x y = record { re = x.re -ℤ y.re; im = x.im -ℤ y.im }
 
+-- the product
 abbrev pub times : Complex → Complex → Complex
 times x y = record { re = x.re *ℤ y.re -ℤ x.im *ℤ y.im; im = x.re *ℤ y.im +ℤ x.im *ℤ y.re }
 
+-- the conjugate
 abbrev pub conjugate : Complex → Complex
 conjugate x = record { re = x.re; im = neg_ℤ x.im }
 
+-- an integer multiple
 abbrev pub scaled : ℤ → Complex → Complex
 scaled n x = record { re = n *ℤ x.re; im = n *ℤ x.im }
 

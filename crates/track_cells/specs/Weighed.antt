@@ -27,7 +27,7 @@ weighed_to (suc i) row parts n = weighed_to i row parts n +ℤ part_at row i *�
 abbrev pub weighed : List ℤ → List ℤ → ℕ → ℤ
 weighed row parts n = floor (weighed_to 12 row parts n +ℤ pos (2 ^ 13)) (2 ^ 14)
 
--- the cosines of the turns back of the 192 carriers from carrier 15 on, each so many sixty-fourths of a turn further
+-- the cosines of the turns back of the 192 carriers from carrier 15 on, `ahead` sixty-fourths of a turn further
 pub record AreBack (guard : Guard) (ahead : ℕ) (cosines : List ℤ) : Type 0 where
   pub is : (j : ℕ) → j < 192 → part_at cosines j ≡ cosine ((63 * ((15 + j) * slope guard) + ahead) % 64)
   pub within : (j : ℕ) → j < 192 → nat_abs (part_at cosines j) ≤ 2 ^ 14

@@ -30,7 +30,7 @@ fn slope(guard: Guard) -> u32
     }
 }
 
-// A gain turned by so many sixty-fourths of a turn.
+// A gain turned by `i` sixty-fourths of a turn.
 fn turn(gain: Complex, i: u32) -> Complex
     requires gain { IsWithin (2 ^ 40) gain }
     requires i { i < 2 ^ 31 }

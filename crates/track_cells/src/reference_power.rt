@@ -48,7 +48,7 @@ fn full_ratio(shape: Shape) -> u64
     }
 }
 
-/// The power of the gain with which a cell counts whole: by the noise of so many continual pilots, and 3/2
+/// The power of the gain at which a cell has full weight: by the noise of the continual pilots, and 3/2
 /// of the mean power at most. The mean is at most 2^51, the noise at most 2^44, and there are 1 to 177
 /// pilots.
 pub fn full_power(shape: Shape, mean: u64, noise: u64, pilots: u64) -> u64

@@ -9,10 +9,11 @@ use Rattle.tracking.specs.declared.motion.Motion.{Motion}
 abbrev pub has : ℕ → ℕ → Bool
 has n i = n / 2 ^ i % 2 == 1
 
--- the number with these bits
+-- the number with this bit
 abbrev pub digit : Bool → ℕ
 digit b = if b then 1 else 0
 
+-- the number of these four bits, lowest first
 abbrev pub number_of : Bool → Bool → Bool → Bool → ℕ
 number_of a b c d = digit a + 2 * digit b + 4 * digit c + 8 * digit d
 

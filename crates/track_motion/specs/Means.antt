@@ -19,11 +19,12 @@ most_left = 173946175488
 abbrev pub most_residue : ℕ
 most_residue = 177 * most_left
 
--- each mean separately
+-- the mean residue of the slow channel, if known
 abbrev pub slow_of : Option Residues → Option ℕ
 slow_of None = None
 slow_of (Some r) = Some r.slow
 
+-- the mean residue of the fast channel, if known
 abbrev pub fast_of : Option Residues → Option ℕ
 fast_of None = None
 fast_of (Some r) = Some r.fast

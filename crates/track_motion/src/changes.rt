@@ -20,7 +20,7 @@ pub(crate) fn first_place(m: u64) -> usize
     7u64.saturating_sub(m) as usize
 }
 
-/// The place after the last one, of a file of so many symbols. Symbol `m` is one of them.
+/// The place after the last one, of a file of `count` symbols. Symbol `m` is one of them.
 pub(crate) fn end_place(count: u64, m: u64) -> usize
     requires { m < count }
     ensures { result ≡ end_place count m }

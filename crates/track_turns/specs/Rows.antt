@@ -13,16 +13,18 @@ pub record IsRow (points : List ℕ) (row : List Complex) : Type 0 where
   pub has : (i : ℕ) → i < length points → get_or points i 0 < length row
   pub small : (j : ℕ) → j < length row → IsWithin (2 ^ 15) (at row j)
 
--- the products of a row with the conjugate of another
+-- the product of a row at a point with the conjugate of another
 abbrev pub product : List Complex → List Complex → ℕ → Complex
 product row other j = times (at row j) (conjugate (at other j))
 
+-- the sum of these products over the points
 abbrev pub products : List ℕ → List Complex → List Complex → Complex
 products points row other = sum_of (product row other) points
 
--- the distance of a row from another row after a turn
+-- the distance at a point of a row from another row after a turn
 abbrev pub difference : List Complex → List Complex → Complex → ℕ → ℕ
 difference row other turn j = power (minus (at row j) (near 14 (times (at other j) turn)))
 
+-- the sum of these distances over the points
 abbrev pub differences : List ℕ → List Complex → List Complex → Complex → ℕ
 differences points row other turn = sum_by (difference row other turn) points

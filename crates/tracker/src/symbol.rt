@@ -22,7 +22,7 @@ use track_pilots::PilotWindow;
 use track_ring::SymbolRing;
 use track_turns::continual_points;
 
-// The power with which a cell of symbol `m` counts whole, in a file of so many symbols so far.
+// The power at which a cell of symbol `m` has full weight, in a file of `count` symbols so far.
 fn reference_power<M: Carriers>(
     settings: &Settings,
     count: u64,

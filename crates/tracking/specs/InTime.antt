@@ -56,6 +56,7 @@ nearest_place ps = unwrap_or (find (λ p. apart p == least (map apart ps)) ps) 7
 abbrev pub receiver : List ℕ → ℕ → ℕ
 receiver ps p = if is_among ps p then p else nearest_place ps
 
+-- the sum of f over a list of places
 abbrev pub sum_ℤ : (ℕ → ℤ) → List ℕ → ℤ
 sum_ℤ f [] = pos 0
 sum_ℤ f (i ∷ is) = f i +ℤ sum_ℤ f is

@@ -42,8 +42,8 @@ noise_by (Some slow) (Some fast) middle = noise_of slow fast
 unfoldable pub noise : Comb → ℕ → ℕ
 noise c m = noise_by (mean_residue c Slow m) (mean_residue c Fast m) (middle c m)
 
--- the power at which a cell of symbol m has full weight; the mean power if the file has one symbol, where the noise is
--- unknown
+-- the power at which a cell of symbol m has full weight; the mean power if the file has one symbol, as its
+-- noise is unknown
 unfoldable pub reference_power : Settings → Comb → ℕ → ℕ
 reference_power s c m =
     if length (window c m) == 1 then mean_power s.mode (gain s c m)

@@ -1,4 +1,4 @@
--- The order of work in a modulation, and where it is refused (this project's own).
+-- The order of work in a modulation, and its refusals (this project's own).
 use Rattle.std.specs.Prelude.{◌≡◌, ℕ, ◌+◌, ◌-◌, ◌≤◌, ◌==◌, nat_le, nat_lt, Bool, true, false, if◌then◌else◌, List, []}
 use Rattle.std.specs.Prelude.{◌∷◌, ◌++◌, length, map, flat_map, find, take_while, count_by, Option, Some, None, is_some}
 use Rattle.std.specs.Prelude.{is_none, option_and_then, slice_index}
@@ -62,6 +62,7 @@ first_refusal s most inputs = option_and_then (refusal s most inputs)
 unfoldable pub done : Settings → ℕ → Inputs → List Item
 done s most inputs = take_while (λ item. is_none (refusal s most inputs item)) (agenda s inputs)
 
+-- the item sends a symbol
 abbrev pub is_send : Item → Bool
 is_send (ask_limit m) = false
 is_send (take_packet σ p) = false

@@ -21,19 +21,21 @@ SymbolsAreCells = (s : Settings) (inputs : Inputs) (m : ℕ) → tx_symbol s inp
 abbrev pub SymbolsAreLong : Type 0
 SymbolsAreLong = (s : Settings) (inputs : Inputs) (m : ℕ) → length (tx_symbol s inputs m) ≡ 5 * carriers s.mode
 
--- symbol after symbol
+-- zero symbols have no bytes
 abbrev pub NoSymbol : Type 0
 NoSymbol = (s : Settings) (inputs : Inputs) → first_symbols s inputs 0 ≡ []
 
+-- one more symbol is appended
 abbrev pub OneSymbolMore : Type 0
 OneSymbolMore = (s : Settings) (inputs : Inputs) (n : ℕ) → first_symbols s inputs (n + 1) ≡ first_symbols s inputs n
     ++ tx_symbol s inputs n
 
--- fewer symbols, with or without part of the next one, are a prefix of more symbols
+-- fewer symbols are a prefix of more symbols
 abbrev pub FrontOfSymbols : Type 0
 FrontOfSymbols = (s : Settings) (inputs : Inputs) (m n : ℕ) → m ≤ n → (k : ℕ)
     × (first_symbols s inputs m ≡ take k (first_symbols s inputs n))
 
+-- fewer symbols and part of the next one are a prefix of more symbols
 abbrev pub PartOfSymbols : Type 0
 PartOfSymbols = (s : Settings) (inputs : Inputs) (m n j : ℕ) → m < n → (k : ℕ)
     × (first_symbols s inputs m ++ take j (tx_symbol s inputs m) ≡ take k (first_symbols s inputs n))
@@ -44,19 +46,21 @@ SameBeginning s m = (inputs other : Inputs)
     → ((σ : Stream) (i : ℕ) → i < packets_for s σ (m + 1) → packet_at (inputs σ) i ≡ packet_at (other σ) i)
     → tx_symbol s inputs m ≡ tx_symbol s other m
 
--- the least number is found, if there is one, and it is unique
+-- the least number is found, if there is one
 abbrev pub TheNumberIsFound : Type 0
 TheNumberIsFound = (s : Settings) (counts : Stream → ℕ) → IsLength s counts (super_frames s counts)
 
+-- this number is unique
 abbrev pub OneLength : Type 0
 OneLength = (s : Settings) (counts : Stream → ℕ) (length : Option ℕ) → IsLength s counts length → super_frames s counts
     ≡ length
 
--- super-frames that do not carry a stream are too few, and those that carry all streams are enough
+-- super-frames that do not carry a stream are too few
 abbrev pub TooFew : Type 0
 TooFew = (s : Settings) (counts : Stream → ℕ) (k n : ℕ) (σ : Stream) → super_frames s counts ≡ Some k
     → IsTrue (exists_in s σ) → words_before s σ n < counts σ + 11 → n < k
 
+-- super-frames that carry all streams are enough
 abbrev pub Enough : Type 0
 Enough = (s : Settings) (counts : Stream → ℕ) (n : ℕ) → 1 ≤ n → Suffices s counts n → (k : ℕ)
     × (super_frames s counts ≡ Some k) × (k ≤ n)
@@ -70,7 +74,7 @@ ConstantFrames = (s : Settings) (counts : Stream → ℕ) → entries_of s.plan 
 abbrev pub ThePacketsAreLeast : Type 0
 ThePacketsAreLeast = (s : Settings) (σ : Stream) (n : ℕ) → ArePacketsFor s σ n (packets_for s σ n)
 
--- no symbols need no packets
+-- zero symbols need no packets
 abbrev pub NoPackets : Type 0
 NoPackets = (s : Settings) (σ : Stream) → packets_for s σ 0 ≡ 0
 

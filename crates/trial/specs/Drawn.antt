@@ -14,10 +14,11 @@ use Rattle.transmission.specs.Transmission.{Inputs, by_stream}
 use Rattle.transmission.specs.SuperFrames.{packets_for, super_frames}
 use Rattle.reception.specs.Cells.{symbol_length}
 
--- the number of random packets of each stream: from the first word for HP, from the second for LP if LP exists
+-- the number of random packets of HP, from the first word
 abbrev pub hp_count : ℕ → ℕ
 hp_count number = count_of (generator number)
 
+-- the number of random packets of LP, from the second word, if LP exists
 abbrev pub lp_count : Settings → ℕ → ℕ
 lp_count s number = if exists_in s Lp then count_of (after 1 (generator number)) else 0
 
@@ -37,11 +38,11 @@ trial_frames s number = super_frames s (drawn_count s number)
 abbrev pub trial_symbols : Settings → ℕ → ℕ
 trial_symbols s number = 272 * unwrap_or (trial_frames s number) 0
 
--- the number of a stream's packets generated before symbol m, as many as the symbols need up to the count; and of those
--- for symbol m
+-- the number of a stream's packets generated before symbol m, as many as the symbols need up to the count
 abbrev pub drawn_before : Settings → ℕ → Stream → ℕ → ℕ
 drawn_before s number σ m = min (drawn_count s number σ) (packets_for s σ m)
 
+-- the number of a stream's packets generated for symbol m
 abbrev pub drawn_for : Settings → ℕ → Stream → ℕ → ℕ
 drawn_for s number σ m = drawn_before s number σ (m + 1) - drawn_before s number σ m
 
@@ -49,14 +50,15 @@ drawn_for s number σ m = drawn_before s number σ (m + 1) - drawn_before s numb
 unfoldable pub pieces : Lcg → ℕ → ℕ
 pieces g bytes = first_below bytes (λ n. nat_le bytes (sum (map (λ i. length_of (after i g)) (numbers n))))
 
--- where the generator starts for LP's packets of a symbol that begins with generator g; then for the shifts and the
--- pieces
+-- the generator at LP's packets of a symbol that begins with generator g
 abbrev pub lp_from : Settings → ℕ → ℕ → Lcg → Lcg
 lp_from s number m g = after (packet_words * drawn_for s number Hp m) g
 
+-- the generator at the shifts of that symbol
 abbrev pub shifts_from : Settings → ℕ → ℕ → Lcg → Lcg
 shifts_from s number m g = after (packet_words * drawn_for s number Lp m) (lp_from s number m g)
 
+-- the generator at the pieces of that symbol
 abbrev pub pieces_from : Settings → ℕ → ℕ → Lcg → Lcg
 pieces_from s number m g = after (2 * payload s.mode) (shifts_from s number m g)
 

@@ -23,6 +23,7 @@ shift s number m i = shift_of (tolerance (settings_at s m).shape (settings_at s 
 abbrev pub moved : Settings → ℕ → ℕ → ℕ → Cell → Cell
 moved s number m q c = record { re = c.re +ℤ shift s number m (2 * q); im = c.im +ℤ shift s number m (2 * q + 1) }
 
+-- the cell with both axes negated
 abbrev pub negated : Cell → Cell
 negated c = record { re = neg_ℤ c.re; im = neg_ℤ c.im }
 

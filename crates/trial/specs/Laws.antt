@@ -24,11 +24,12 @@ abbrev pub AllAreDrawn : Type 0
 AllAreDrawn = (s : Settings) (number n : ℕ) (σ : Stream) → trial_frames s number ≡ Some n → length (drawn s number σ)
     ≡ drawn_count s number σ
 
--- so the super-frames for the counts are those for the packets, and a trial's symbols are those of their transmission
+-- so the super-frames for the counts are those for the packets
 abbrev pub FramesOfDrawn : Type 0
 FramesOfDrawn = (s : Settings) (number n : ℕ) → trial_frames s number ≡ Some n
     → super_frames s (counts_of (drawn s number)) ≡ Some n
 
+-- and a trial's symbols are those of their transmission
 abbrev pub SymbolsOfDrawn : Type 0
 SymbolsOfDrawn = (s : Settings) (number n : ℕ) → trial_frames s number ≡ Some n → trial_symbols s number
     ≡ symbols_of s (drawn s number)
@@ -56,6 +57,7 @@ pub record IsSmall (c : Cell) : Type 0 where
   pub re : nat_abs c.re ≤ 21845
   pub im : nat_abs c.im ≤ 21845
 
+-- no part of a transmitted cell exceeds the level of pilots
 abbrev pub CellsAreSmall : Type 0
 CellsAreSmall = (s : Settings) (inputs : Inputs) (m k : ℕ) → IsSmall (tx_cell s inputs m k)
 
@@ -75,6 +77,7 @@ pub record AreCounted (packets : List ℕ) (tally : Tally) : Type 0 where
   pub few : tally.unphased ≤ tally.words
   pub long : length packets ≡ 188 * (tally.words - tally.unphased)
 
+-- a final output has one packet for each word with a phase
 abbrev pub PacketsAreCounted : Type 0
 PacketsAreCounted = (s : Settings) (bytes : List ℕ) (r : Reception) (σ : Stream) → Final s bytes r
     → AreCounted (r.packets σ) (r.tally σ)

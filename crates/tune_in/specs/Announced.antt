@@ -1,5 +1,4 @@
--- The settings of a reception, as announced by a found frame (EN 300 744, 4.6.2: a frame signals the parameters of the
--- next super-frame).
+-- The settings of a reception, as announced by a found frame (EN 300 744, 4.6.2).
 use Rattle.std.specs.Prelude.{◌≡◌, if◌then◌else◌, Some, None}
 use Rattle.mode_set.specs.Kept.{is_flat}
 use Rattle.mode_set.specs.Plans.{no_plan}

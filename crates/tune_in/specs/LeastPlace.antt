@@ -1,5 +1,4 @@
--- The least place in the symbols of a file, as a function: an exhaustive search through the symbols and all valid
--- fields (EN 300 744, 4.6.2).
+-- The least place in the symbols of a file, by exhaustive search (EN 300 744, 4.6.2).
 use Rattle.std.specs.Prelude.{◌≡◌, ℕ, suc, ◌-◌, ◌==◌, min, nat_le, Bool, true, false, not, ◌&&◌, ◌||◌, List, [], ◌∷◌}
 use Rattle.std.specs.Prelude.{Option, Some, None, if◌then◌else◌}
 use Rattle.std.specs.Option.{option_map, option_or}
@@ -29,21 +28,27 @@ abbrev pub first_answer : {A B : Type 0} → List A → (A → Option B) → Opt
 first_answer [] answer = None
 first_answer (x ∷ xs) answer = option_or (answer x) (first_answer xs answer)
 
+-- both values of a flag
 abbrev pub bools : List Bool
 bools = true ∷ false ∷ []
 
+-- all constellations
 abbrev pub shapes : List Shape
 shapes = Qpsk ∷ Qam16 ∷ Qam64 ∷ []
 
+-- all hierarchies
 abbrev pub hierarchies : List Hierarchy
 hierarchies = Flat ∷ Alpha1 ∷ Alpha2 ∷ Alpha4 ∷ []
 
+-- all code rates
 abbrev pub rates : List Rate
 rates = R1of2 ∷ R2of3 ∷ R3of4 ∷ R5of6 ∷ R7of8 ∷ []
 
+-- all guard intervals
 abbrev pub guards : List Guard
 guards = G1of32 ∷ G1of16 ∷ G1of8 ∷ G1of4 ∷ []
 
+-- the code rate is 1/2
 abbrev pub is_half : Rate → Bool
 is_half R1of2 = true
 is_half R2of3 = false

@@ -1,5 +1,5 @@
--- Frames in symbols that begin anywhere: where a frame begins, and what it signals (EN 300 744, 4.6; the vote and the
--- rule for places are this project's own).
+-- Frames in symbols that begin anywhere, and what they signal (EN 300 744, 4.6; the vote and the rule for places are
+-- this project's own).
 use Rattle.std.specs.Prelude.{◌≡◌, ℕ, ◌+◌, ◌-◌, ◌*◌, ◌≤◌, Bool, List}
 use Rattle.mode_set.specs.declared.modes.Mode.{Mode}
 use Rattle.qam_map.specs.declared.cell.Cell.{Cell}
