@@ -44,4 +44,3 @@ AreDecoded bytes done slots = (i : ℕ) (d : WordSlot) → i < length slots
 abbrev pub AreReceived : List ℕ → ℕ → List (List ℕ) → Type 0
 AreReceived bytes done received = (i : ℕ) (d : List ℕ) → i < length received → slice_index_or received i d
     ≡ word_at bytes (done + i)
-

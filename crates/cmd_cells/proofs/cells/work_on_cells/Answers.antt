@@ -269,4 +269,3 @@ symbols-preserved g c =
           (subst (λ (b : Bool). Next (g.X.SymbolWork.work s2) stand3 c.args.max_symbols file n start m3 (Ok b)) c.if-not-goes_on.false
           (e.next file is.0 is.1 start size was));
     }
-
