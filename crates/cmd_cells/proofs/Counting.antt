@@ -48,6 +48,16 @@ module _ (size : ℕ) (some : 0 < size) where
       let few : length (bytes ++ piece) / size < (n + 1) + 1 = (div-lt_iff_lt-mul {k = size} {x = length (bytes ++ piece)} {y = (n + 1) + 1} some).1 below in
       omega (arith, few)
 
+  -- one more piece stays within a limit if it is no whole symbol past it
+  pub within_limit : (bytes piece : List ℕ) (n most : ℕ) → length bytes ≡ n * size → length piece ≤ size → n ≤ most → (n ≡ most → length piece < size) → symbols size (bytes ++ piece) ≤ most
+  within_limit bytes piece n most e l le past = elim (cases_lt n most) [
+    | inl lt ↦ let few : symbols size (bytes ++ piece) ≤ n + 1 = little_longer bytes piece n e l in omega (arith, few, lt)
+    | inr ge ↦
+        let same : n ≡ most = omega (arith, le, ge) in
+        let few : symbols size (bytes ++ piece) ≤ n = not_longer bytes piece n e (past same) in
+        omega (arith, few, le)
+  ]
+
   pub at_least : (bytes : List ℕ) (n : ℕ) → (n + 1) * size ≤ length bytes → n < symbols size bytes
   at_least bytes n le = elim (cases_lt (symbols size bytes) (n + 1)) [
     | inl few ↦

@@ -8,7 +8,7 @@ use Rattle.cmd_cells.specs.declared.run_error.RunError.TheVariants.{ReadFault, W
 use Rattle.cmd_cells.specs.declared.run_error.RunError.TheVariants as stops
 use Rattle.cmd_cells.specs.Symbols.{symbols, tail, within_limit}
 use Rattle.cmd_cells.specs.Work.{Gave, GaveFront, Holds, HoldsFront, Takes, Work, WritesOnly, Written}
-use Rattle.cmd_cells.specs.Cells.{IsPast, IsStopped, IsWorking, Next, Stopped, TakesAll}
+use Rattle.cmd_cells.specs.Cells.{IsPast, IsStopped, IsWorking, Next, Stopped}
 use Rattle.cmd_cells.proofs.Counting.{at_least, longer, no_tail, not_longer, one_more}
 use Rattle.cmd_cells.proofs.Sinks.{fault_sink, read_sink}
 
@@ -88,12 +88,6 @@ module _ (w : Work) (most : ℕ) (file bytes : List ℕ) (given : Written) (stan
     refuses = takes.0 m''.cells.left;
     holds = λ port. takes.1 (tells' ∙ before t) port ∙ held t port;
   }
-
-  -- the rest of the cells was taken, or was not
-  pub rest_of : (result : Result (Unit {0}) RunError) → symbols w.size (bytes ++ piece) ≤ most → (m''.tells ≡ true → m''.cells.left ≡ []) → Takes w standing' bytes piece given m' m'' result
-      → TakesAll w standing' most file start m'' result
-  rest_of (Ok u) few end takes = (bytes ++ piece, takes.after, goes_on takes, few, end)
-  rest_of (Err stop) few end takes = fails stop few takes
 
   -- once the cells ended, nothing is left
   pub at_end : (m.tells ≡ true → n ≡ length m.cells.left) → m''.tells ≡ true → m''.cells.left ≡ []

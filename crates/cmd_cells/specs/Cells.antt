@@ -114,14 +114,6 @@ Next w standing most file n start m (Ok false) =
     × (m.tells ≡ true → m.cells.left ≡ [])
 Next w standing most file n start m (Err stop) = m.tells ≡ true → Stopped w most file start m stop
 
--- All cells were taken, within the limit, or the work stopped.
-abbrev pub TakesAll : Work → (List ℕ → Written → Type 0) → ℕ → List ℕ → Meaning → Meaning → Result (Unit {0}) RunError
-    → Type 0
-TakesAll w standing most file start m (Ok u) =
-    (bytes : List ℕ) × (given : Written) × IsWorking w standing file start m bytes given × (symbols w.size bytes ≤ most)
-    × (m.tells ≡ true → m.cells.left ≡ [])
-TakesAll w standing most file start m (Err stop) = m.tells ≡ true → Stopped w most file start m stop
-
 -- The whole work.
 abbrev pub Works : Work → ℕ → List ℕ → Meaning → Meaning → Result (Unit {0}) RunError → Type 0
 Works w most file start m (Ok u) = m.tells ≡ true → (m.cells.left ≡ []) × (symbols w.size file ≤ most)

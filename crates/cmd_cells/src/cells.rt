@@ -1,20 +1,21 @@
 // The loop over the symbols of a file of cells.
-ghost use Rattle.std.specs.Prelude.{◌≡◌, ◌≤◌, ◌<◌, ◌+◌, ◌*◌, ℕ, List, [], true, IsTrue, length};
+ghost use Rattle.std.specs.Prelude.{◌≡◌, ◌≤◌, ◌<◌, ◌+◌, ◌*◌, ℕ, List, [], true, IfOk, IsTrue, length};
 ghost use Rattle.cmd_cells.specs.Stops.{HasCause};
 ghost use Rattle.cmd_cells.specs.Symbols.{symbols};
 ghost use Rattle.cmd_cells.specs.Work.{AreOpen, GoesOn, HasReason, Written};
 ghost use Rattle.station_core.specs.Meaning.{Meaning};
-ghost use Rattle.cmd_cells.specs.Cells.{IsWorking, KeepsOthers, Next, TakesAll, TakesAtMost, Works};
+ghost use Rattle.cmd_cells.specs.Cells.{IsWorking, KeepsOthers, Next, TakesAtMost, Works};
 
 use crate::run_error::RunError;
 use crate::work::SymbolWork;
 use cmd_base::fill;
-use station_core::{Failed, InPort, Station};
+use station_core::{InPort, Station};
 
-// Passes on the symbol of this number, or the remaining bytes of the cells. Returns whether the symbol was whole. Each
-// read requests the bytes still missing.
+// Passes on the symbol of this number, or the remaining bytes of the cells. Returns whether the symbol was whole; the
+// one after the limit must not be. Each read requests the bytes still missing.
 fn take_next<'a, X: SymbolWork<'a, S>, S: Station<'a>>(
     number: u32,
+    max_symbols: u32,
     work: &mut X,
     symbol: &mut [u8],
     station: &mut S,
@@ -25,6 +26,7 @@ fn take_next<'a, X: SymbolWork<'a, S>, S: Station<'a>>(
     requires size { length symbol.old ≡ (X.work (X.setup work.old)).size }
     requires some { 0 < length symbol.old }
     requires going { GoesOn (X.work (X.setup work.old)) (X.stands work.old) }
+    requires within { number ≤ max_symbols }
     ensures size { length symbol.new ≡ length symbol.old }
     ensures setup { X.setup work.new ≡ X.setup work.old }
     ensures others { KeepsOthers (S.meaning station.old) (S.meaning station.new) }
@@ -32,55 +34,24 @@ fn take_next<'a, X: SymbolWork<'a, S>, S: Station<'a>>(
     ensures reason { HasReason (X.work (X.setup work.old)) result }
     ensures later_report { (S.meaning station.old).report_faults ≤ (S.meaning station.new).report_faults }
     ensures taken { TakesAtMost (X.work (X.setup work.old)).size (S.meaning station.old) (S.meaning station.new) }
-    ensures next { (most : ℕ) (file bytes : List ℕ) (given : Written) (start : Meaning) → number < most → length bytes
+    ensures below { IfOk result (λ whole. IsTrue whole → number < max_symbols) }
+    ensures next { (file bytes : List ℕ) (given : Written) (start : Meaning) → length bytes
         ≡ number * (X.work (X.setup work.old)).size
         → IsWorking (X.work (X.setup work.old)) (X.stands work.old) file start (S.meaning station.old) bytes given
-        → Next (X.work (X.setup work.old)) (X.stands work.new) most file number start (S.meaning station.new) result }
+        → Next (X.work (X.setup work.old)) (X.stands work.new) max_symbols file number start (S.meaning station.new)
+        result }
 {
     work.law();
     let filled = match fill(station, InPort::Cells, symbol) {
         Ok(filled) => filled,
         Err(_) => return Err(RunError::ReadFault),
     };
-    work.take(&symbol[..filled], station)?;
-    Ok(filled == symbol.len())
-}
-
-// After as many symbols as the limit: passes on the remaining bytes of the cells, if they are no whole symbol.
-fn take_rest<'a, X: SymbolWork<'a, S>, S: Station<'a>>(
-    max_symbols: u32,
-    work: &mut X,
-    symbol: &mut [u8],
-    station: &mut S,
-) -> Result<(), RunError>
-    requires able { X.able }
-    requires attached { (S.meaning station.old).cells.attached ≡ true }
-    requires open { AreOpen (X.outputs (X.setup work.old)) (S.meaning station.old) }
-    requires size { length symbol.old ≡ (X.work (X.setup work.old)).size }
-    requires some { 0 < length symbol.old }
-    requires going { GoesOn (X.work (X.setup work.old)) (X.stands work.old) }
-    ensures setup { X.setup work.new ≡ X.setup work.old }
-    ensures others { KeepsOthers (S.meaning station.old) (S.meaning station.new) }
-    ensures cause { HasCause (S.meaning station.old) (S.meaning station.new) result }
-    ensures reason { HasReason (X.work (X.setup work.old)) result }
-    ensures later_report { (S.meaning station.old).report_faults ≤ (S.meaning station.new).report_faults }
-    ensures taken { TakesAtMost (X.work (X.setup work.old)).size (S.meaning station.old) (S.meaning station.new) }
-    ensures rest { (file bytes : List ℕ) (given : Written) (start : Meaning) → length bytes
-        ≡ max_symbols * (X.work (X.setup work.old)).size
-        → IsWorking (X.work (X.setup work.old)) (X.stands work.old) file start (S.meaning station.old) bytes given
-        → TakesAll (X.work (X.setup work.old)) (X.stands work.new) max_symbols file start (S.meaning station.new)
-        result }
-{
-    work.law();
-    let filled = match fill(station, InPort::Cells, symbol) {
-        Ok(filled) => filled,
-        Err(Failed) => return Err(RunError::ReadFault),
-    };
-    if filled == symbol.len() {
+    let whole = filled == symbol.len();
+    if whole && number == max_symbols {
         return Err(RunError::Limit);
     }
-    let rest = &symbol[..filled];
-    work.take(rest, station)
+    work.take(&symbol[..filled], station)?;
+    Ok(whole)
 }
 
 // Ends the work after the cells taken.
@@ -130,12 +101,12 @@ pub(crate) fn work_on_cells<'a, X: SymbolWork<'a, S>, S: Station<'a>>(
         (S.meaning station.old) (S.meaning station.new) result }
 {
     work.begin(station)?;
-    for number in 0..max_symbols {
-        let goes_on = take_next(number, work, symbol, station)?;
+    let mut number = 0;
+    'symbols: loop {
+        let goes_on = take_next(number, max_symbols, work, symbol, station)?;
         if !goes_on {
             return end(work, station);
         }
+        number += 1;
     }
-    take_rest(max_symbols, work, symbol, station)?;
-    end(work, station)
 }

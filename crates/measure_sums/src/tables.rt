@@ -13,11 +13,7 @@ fn label_count(shape: Shape) -> u8
     ensures count { result ≡ 2 ^ label_bits shape }
     ensures few { result ≤ 64 }
 {
-    match shape {
-        Shape::Qpsk => 4,
-        Shape::Qam16 => 16,
-        Shape::Qam64 => 64,
-    }
+    1 << shape.label_bits()
 }
 
 // The cells of all labels of a constellation.

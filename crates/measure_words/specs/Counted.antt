@@ -44,9 +44,3 @@ AreDecoded bytes done slots = (i : ℕ) (d : WordSlot) → i < length slots
 abbrev pub AreReceived : List ℕ → ℕ → List (List ℕ) → Type 0
 AreReceived bytes done received = (i : ℕ) (d : List ℕ) → i < length received → slice_index_or received i d
     ≡ word_at bytes (done + i)
-
--- each word is decoded
-pub record DecodesAll (old new : List WordSlot) : Type 0 where
-  pub long : length new ≡ length old
-  pub each : (i : ℕ) (d : WordSlot) → i < length old → Decoded (slice_index_or old i d).word (slice_index_or new i
-      d).word (slice_index_or new i d).outcome

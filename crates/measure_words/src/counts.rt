@@ -1,6 +1,5 @@
 // Counts of received words.
-ghost use Rattle.std.specs.Prelude.{◌≡◌, ◌+◌, ◌≤◌, ◌^◌, ℕ, not, cond};
-ghost use Rattle.outer_chain.specs.Running.{is_clean_outcome, is_corrected_outcome, is_bad_outcome};
+ghost use Rattle.std.specs.Prelude.{◌≡◌, ◌+◌, ◌≤◌, ◌^◌, ℕ};
 ghost use Rattle.measure_words.specs.Sums.{counted, no_sums, AreFew};
 
 use rs204::Outcome;
@@ -20,28 +19,6 @@ pub struct WordSums {
     pub unphased: u64,
     /// The bits in which the corrected words differ from their codewords.
     pub repaired: u64,
-}
-
-/// One where the outcome is that of a clean, a corrected or a bad word.
-fn kinds(outcome: Outcome) -> (u64, u64, u64)
-    ensures clean { result.0 ≡ cond (is_clean_outcome outcome) 1 0 }
-    ensures corrected { result.1 ≡ cond (is_corrected_outcome outcome) 1 0 }
-    ensures bad { result.2 ≡ cond (is_bad_outcome outcome) 1 0 }
-    ensures one { result.0 + result.1 + result.2 ≡ 1 }
-{
-    match outcome {
-        Outcome::Clean => (1, 0, 0),
-        Outcome::Corrected(_) => (0, 1, 0),
-        Outcome::Bad => (0, 0, 1),
-    }
-}
-
-/// One where there is no phase.
-fn without(phased: bool) -> u64
-    ensures is { result ≡ cond (not phased) 1 0 }
-    ensures small { result ≤ 1 }
-{
-    if phased { 0 } else { 1 }
 }
 
 impl WordSums {
@@ -67,12 +44,15 @@ impl WordSums {
         ensures few { (n : ℕ) → AreFew self.old n → AreFew self.new (n + 1) }
         ensures counted { self.new ≡ counted self.old outcome phased repaired }
     {
-        let (clean, corrected, bad) = kinds(outcome);
         self.words += 1;
-        self.clean += clean;
-        self.corrected += corrected;
-        self.bad += bad;
-        self.unphased += without(phased);
         self.repaired += repaired;
+        if !phased {
+            self.unphased += 1;
+        }
+        match outcome {
+            Outcome::Clean => self.clean += 1,
+            Outcome::Corrected(_) => self.corrected += 1,
+            Outcome::Bad => self.bad += 1,
+        }
     }
 }

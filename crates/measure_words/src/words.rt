@@ -1,11 +1,11 @@
 // From the bytes of a stream to the counts of its words.
 ghost use Rattle.std.specs.Prelude.{◌≡◌, ◌+◌, ◌<◌, ◌≤◌, ◌^◌, ◌∷◌, ◌++◌, [], ℕ, List, IfOk, map, min, length, vec_len};
-ghost use Rattle.std.specs.Prelude.{vec_capacity};
+ghost use Rattle.std.specs.Prelude.{slice_index_or, vec_capacity};
 ghost use Rattle.rs204.specs.Decoded.{Decoded};
 ghost use Rattle.outer_chain.specs.Words.{word_at, word_count};
 ghost use Rattle.outer_chain.specs.declared.slot.WordSlot.{WordSlot as Slot};
 ghost use Rattle.measure_words.specs.Sums.{AreFew, counted};
-ghost use Rattle.measure_words.specs.Counted.{HasCounted, Measures, AreDecoded, AreReceived, DecodesAll};
+ghost use Rattle.measure_words.specs.Counted.{HasCounted, Measures, AreDecoded, AreReceived};
 
 use crate::counts::WordSums;
 use crate::repaired::bits_apart;
@@ -72,7 +72,10 @@ fn decode<R: Threads + Sync, G: Gate>(rt: &R, gate: &G, workers: u8, slots: &mut
     requires few_workers { workers ≤ 16 }
     requires few { vec_len slots.old ≤ 24 }
     ensures capacity { vec_capacity slots.new ≡ vec_capacity slots.old }
-    ensures decoded { DecodesAll slots.old.items slots.new.items }
+    ensures long { length slots.new.items ≡ length slots.old.items }
+    ensures each { (i : ℕ) (d : Slot) → i < length slots.old.items
+        → Decoded (slice_index_or slots.old.items i d).word (slice_index_or slots.new.items i d).word
+        (slice_index_or slots.new.items i d).outcome }
 {
     decode_all(rt, workers, gate, slots.as_mut_slice());
 }

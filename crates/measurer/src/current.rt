@@ -1,6 +1,6 @@
 // The sums of a super-frame, symbol after symbol.
 ghost use Rattle.std.specs.Prelude.{◌≡◌, ◌+◌, ◌*◌, ◌<◌, ◌≤◌, ◌^◌, IfSome, Some};
-ghost use Rattle.measure_sums.specs.Tables.{AreLittle, no_sums};
+ghost use Rattle.measure_sums.specs.Tables.{AreLittle};
 ghost use Rattle.measurer.specs.Sums.{nothing_of, with_symbol};
 
 use inner_receiver::FrameReader;
@@ -21,21 +21,6 @@ pub struct Current {
     pub bad_before: u64,
 }
 
-/// The sums of no symbol.
-fn nothing() -> SymbolSums
-    ensures is { result ≡ no_sums }
-{
-    let none = BitSums { bits: 0, wrong: 0 };
-    SymbolSums {
-        cells: 0,
-        muted: 0,
-        power: 0,
-        error: 0,
-        hp: none,
-        lp: none,
-    }
-}
-
 fn add_bits(sums: &mut BitSums, more: &BitSums)
     requires bits { sums.old.bits + more.now.bits < 2 ^ 60 }
     requires wrong { sums.old.wrong + more.now.wrong < 2 ^ 60 }
@@ -54,7 +39,7 @@ impl Current {
         Current {
             number: 0,
             symbols: 0,
-            sums: nothing(),
+            sums: SymbolSums::default(),
             read_before: 0,
             bad_before: 0,
         }
@@ -67,7 +52,7 @@ impl Current {
         Current {
             number,
             symbols: 0,
-            sums: nothing(),
+            sums: SymbolSums::default(),
             read_before: frames.read,
             bad_before: frames.bad,
         }

@@ -1,10 +1,9 @@
 // From the bits of a decoder to packets.
-ghost use Rattle.std.specs.Prelude.{◌≡◌, ◌+◌, ◌-◌, ◌*◌, ◌/◌, ◌%◌, ◌<◌, ◌≤◌, ◌^◌, ◌++◌, [], ℕ, List, All, not, cond};
+ghost use Rattle.std.specs.Prelude.{◌≡◌, ◌+◌, ◌-◌, ◌*◌, ◌/◌, ◌%◌, ◌<◌, ◌≤◌, ◌^◌, ◌++◌, [], ℕ, List, All};
 ghost use Rattle.std.specs.Prelude.{length, vec_len, vec_capacity};
 ghost use Rattle.rs204.specs.Decoded.{Decoded};
 ghost use Rattle.outer_chain.specs.Words.{Tally, word_at, word_count};
-ghost use Rattle.outer_chain.specs.Running.{Finished, bytes_given, is_clean_outcome, is_corrected_outcome};
-ghost use Rattle.outer_chain.specs.Running.{is_bad_outcome};
+ghost use Rattle.outer_chain.specs.Running.{Finished, bytes_given};
 ghost use Rattle.receiver.specs.Words.{AreDecoded, DecodesAll, Started, Took, Passed, Collected, counted, Wrote};
 ghost use Rattle.receiver.specs.Words.{AreFew};
 
@@ -108,40 +107,21 @@ pub(crate) fn decode<R: Threads + Sync, G: Gate>(
     decode_all(rt, workers, gate, slots.as_mut_slice());
 }
 
-/// A one for the kind of outcome: clean, corrected or bad.
-fn kinds(outcome: Outcome) -> (u64, u64, u64)
-    ensures clean { result.0 ≡ cond (is_clean_outcome outcome) 1 0 }
-    ensures corrected { result.1 ≡ cond (is_corrected_outcome outcome) 1 0 }
-    ensures bad { result.2 ≡ cond (is_bad_outcome outcome) 1 0 }
-    ensures one { result.0 + result.1 + result.2 ≡ 1 }
-{
-    match outcome {
-        Outcome::Clean => (1, 0, 0),
-        Outcome::Corrected(_) => (0, 1, 0),
-        Outcome::Bad => (0, 0, 1),
-    }
-}
-
-/// A one if there is no phase.
-fn without(phased: bool) -> u64
-    ensures is { result ≡ cond (not phased) 1 0 }
-    ensures small { result ≤ 1 }
-{
-    if phased { 0 } else { 1 }
-}
-
 /// Counts a word.
 fn count(counts: &mut StreamCounts, outcome: Outcome, phased: bool)
     requires few { AreFew counts.old (2 ^ 62) }
     ensures few { (n : ℕ) → AreFew counts.old n → AreFew counts.new (n + 1) }
     ensures counted { counts.new ≡ counted counts.old outcome phased }
 {
-    let (clean, corrected, bad) = kinds(outcome);
     counts.words += 1;
-    counts.clean += clean;
-    counts.corrected += corrected;
-    counts.bad += bad;
-    counts.unphased += without(phased);
+    if !phased {
+        counts.unphased += 1;
+    }
+    match outcome {
+        Outcome::Clean => counts.clean += 1,
+        Outcome::Corrected(_) => counts.corrected += 1,
+        Outcome::Bad => counts.bad += 1,
+    }
 }
 
 /// Appends bytes, for which there is room.

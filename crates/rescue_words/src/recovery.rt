@@ -79,32 +79,8 @@ fn append_packet(packet: &Option<Packet>, to: &mut Vec<u8>)
     }
 }
 
-/// Recovers a word, counts it, and appends its packet, if it has one.
-pub(crate) fn finish_word(
-    outer: &mut OuterRx,
-    slot: &mut WordSlot,
-    margins: &[u32; 204],
-    counts: &mut RescueCounts,
-    to: &mut Vec<u8>,
-)
-    requires room { vec_len to.old + 188 ≤ vec_capacity to.old }
-    requires few { counts.old.words < 2 ^ 62 }
-    requires fit { AreFit counts.old }
-    ensures len { vec_len to.new ≤ vec_len to.old + 188 }
-    ensures capacity { vec_capacity to.new ≡ vec_capacity to.old }
-    ensures fit { AreFit counts.new }
-    ensures more { counts.new.words ≡ counts.old.words + 1 }
-    ensures receives { (bytes : List ℕ) → Receives outer.old bytes → Receives outer.new bytes }
-    ensures finished { IsFinished slot.old.word margins.now outer.old.phase outer.new.phase to.old.items to.new.items
-        counts.old counts.new }
-{
-    let kind = recover(slot, margins);
-    let packet = outer.finish_word(slot);
-    count(counts, kind, packet.is_some());
-    append_packet(&packet, to);
-}
-
-/// Finishes the word that a byte completed if the margins of its bytes are known.
+/// Finishes the word that a byte completed if the margins of its bytes are known: recovers it, counts it, and appends
+/// its packet, if it has one.
 pub(crate) fn finish_known(
     known: bool,
     outer: &mut OuterRx,
@@ -127,6 +103,9 @@ pub(crate) fn finish_known(
 {
     if known {
         let mut slot = slot;
-        finish_word(outer, &mut slot, margins, counts, to);
+        let kind = recover(&mut slot, margins);
+        let packet = outer.finish_word(&slot);
+        count(counts, kind, packet.is_some());
+        append_packet(&packet, to);
     }
 }

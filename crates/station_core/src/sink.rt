@@ -42,6 +42,7 @@ impl<'a> Writing<'a> {
       IsErr,
     };
     ghost use Rattle.station_core.specs.Causes.{Rose, greatest_count};
+    ghost use Rattle.station_core.specs.Counted.{CountsFault};
 
     // A port where no name was requested, with a capacity of `room` bytes.
     pub fn new(alloc: Global, room: u32) -> Result<Writing<'a>, AllocError>
@@ -66,10 +67,7 @@ impl<'a> Writing<'a> {
         ensures exact { IsErr result ↔ IsTrue fails }
         ensures room { self.new.room ≡ self.old.room }
         ensures here { self.new.faults ≡ self.old.faults }
-        ensures uncounted { OnOk result (faults.new ≡ faults.old) }
-        ensures cause { OnErr result (Rose faults.old faults.new) }
-        ensures later { faults.old ≤ faults.new }
-        ensures bounded { OnErr result (faults.new ≤ greatest_count) }
+        ensures counts { CountsFault result faults.old faults.new }
     {
         self.asked = Some(name);
         if fails {
@@ -96,10 +94,7 @@ impl<'a> Writing<'a> {
         ensures here { OnOk result (self.new.faults ≡ self.old.faults) }
         ensures here_rose { OnErr result (Rose self.old.faults self.new.faults) }
         ensures here_later { self.old.faults ≤ self.new.faults }
-        ensures uncounted { OnOk result (faults.new ≡ faults.old) }
-        ensures cause { OnErr result (Rose faults.old faults.new) }
-        ensures later { faults.old ≤ faults.new }
-        ensures bounded { OnErr result (faults.new ≤ greatest_count) }
+        ensures counts { CountsFault result faults.old faults.new }
     {
         let room = self.room as usize;
         let used = self.bytes.len();
@@ -137,10 +132,7 @@ impl<'a> Writing<'a> {
         ensures exact { IsErr result ↔ IsTrue fails }
         ensures room { self.new.room ≡ self.old.room }
         ensures here { self.new.faults ≡ self.old.faults }
-        ensures uncounted { OnOk result (faults.new ≡ faults.old) }
-        ensures cause { OnErr result (Rose faults.old faults.new) }
-        ensures later { faults.old ≤ faults.new }
-        ensures bounded { OnErr result (faults.new ≤ greatest_count) }
+        ensures counts { CountsFault result faults.old faults.new }
     {
         self.closed = true;
         if fails {

@@ -1,7 +1,7 @@
 // An input port of a station in memory, and the files that it reads.
 ghost use Rattle.std.specs.Prelude.{◌≡◌, ◌≤◌, ◌<◌, ◌↔◌, ◌⊎◌, min, length, take, is_some, true, false, IfSome, IsNone};
 ghost use Rattle.std.specs.Prelude.{OnOk, OnErr, IsTrue, IsErr};
-ghost use Rattle.station_core.specs.Causes.{Rose, greatest_count};
+ghost use Rattle.station_core.specs.Counted.{CountsFault};
 ghost use Rattle.station_core.specs.Files.{Files, content_at, found, has_file};
 
 use crate::Failed;
@@ -69,7 +69,7 @@ impl<'a> Reading<'a> {
       IsTrue,
       IsErr,
     };
-    ghost use Rattle.station_core.specs.Causes.{Rose, greatest_count};
+    ghost use Rattle.station_core.specs.Counted.{CountsFault};
 
     // A port where no name was requested.
     pub fn new() -> Reading<'a>
@@ -95,10 +95,7 @@ impl<'a> Reading<'a> {
         ensures err { OnErr result (source_of files.now self.new
             ≡ asked_source name.now (source_of files.now self.old)) }
         ensures exact { IsErr result ↔ (IsTrue fails ⊎ (has_file files.now name.now ≡ false)) }
-        ensures uncounted { OnOk result (faults.new ≡ faults.old) }
-        ensures cause { OnErr result (Rose faults.old faults.new) }
-        ensures later { faults.old ≤ faults.new }
-        ensures bounded { OnErr result (faults.new ≤ greatest_count) }
+        ensures counts { CountsFault result faults.old faults.new }
     {
         self.asked = Some(name);
         if fails {
@@ -147,10 +144,7 @@ impl<'a> Reading<'a> {
         requires attached { is_some self.old.file ≡ true }
         ensures reads { ReadsOrFails files.now most self.old self.new result buf.new }
         ensures exact { IsErr result ↔ IsTrue fails }
-        ensures uncounted { OnOk result (faults.new ≡ faults.old) }
-        ensures cause { OnErr result (Rose faults.old faults.new) }
-        ensures later { faults.old ≤ faults.new }
-        ensures bounded { OnErr result (faults.new ≤ greatest_count) }
+        ensures counts { CountsFault result faults.old faults.new }
     {
         if fails {
             return Err(count_fault(faults));

@@ -1,12 +1,13 @@
-use Rattle.std.proofs.Common.{◌≡◌, ◌≤◌, ◌*◌, true, ℕ, List, [], length}
+use Rattle.std.proofs.Common.{◌≡◌, ◌≤◌, ◌-◌, ◌*◌, true, ℕ, List, [], length}
 use Rattle.station_core.specs.Meaning.{Meaning}
 use Rattle.cmd_cells.specs.Work.{AreOpen, Written}
 use Rattle.cmd_cells.specs.Cells.{IsWorking, KeepsOthers}
 use Rattle.cmd_cells.proofs.cells.work_on_cells.Given as goal
 
 -- one symbol for each pass of the loop was taken, after the start of the work
-abbrev pub invariant-loop-number : goal.invariant-loop-number
-invariant-loop-number g l = record {
+abbrev pub invariant-symbols : goal.invariant-symbols
+invariant-symbols g l = record {
+  within : l.number ≤ l.max_symbols;
   attached : (g.S.Station.meaning l.station).cells.attached ≡ true;
   opened : AreOpen (g.X.SymbolWork.outputs (g.X.SymbolWork.setup l.initial.work)) (g.S.Station.meaning l.station);
   setup : g.X.SymbolWork.setup l.work ≡ g.X.SymbolWork.setup l.initial.work;
@@ -20,3 +21,7 @@ invariant-loop-number g l = record {
       → (bytes : List ℕ) × (given : Written) × IsWorking (g.X.SymbolWork.work (g.X.SymbolWork.setup l.initial.work)) (g.X.SymbolWork.stands l.work) file start (g.S.Station.meaning l.station) bytes given
       × (length bytes ≡ l.number * (g.X.SymbolWork.work (g.X.SymbolWork.setup l.initial.work)).size);
 }
+
+-- the symbols up to the limit
+abbrev pub decreases-symbols : goal.decreases-symbols
+decreases-symbols g l = l.max_symbols - l.number

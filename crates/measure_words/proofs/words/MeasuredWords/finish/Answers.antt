@@ -27,7 +27,7 @@ returns-clause-measures g c = λ bytes done from.
     subst (λ (z : WordsState). Measures z bytes done from limit → Measures (new c.clear.new.self.items) bytes (word_count bytes) from limit) c.self.view_is
     (λ h. subst (λ (z : List WordSlot). Measures (new z) bytes (word_count bytes) from limit) (sym c.clear.ensures.items)
     (measures_finished old bytes done from limit c.decode.new.slots.items c.keep.new.received.items c.count_words.new.outer c.count_words.new.all c.count_words.new.current c.count_words.new.later h
-    (c.keep.ensures.received ∙ ap (map (λ (s : WordSlot). s.word)) c.deref.ensures.value) c.decode.ensures.decoded.long c.decode.ensures.decoded.each
+    (c.keep.ensures.received ∙ ap (map (λ (s : WordSlot). s.word)) c.deref.ensures.value) c.decode.ensures.long c.decode.ensures.each
     (subst (λ (r : List (List ℕ)). (b : List ℕ) (n f : ℕ) → HasCounted x.outer x.all x.current x.later b n f limit → n + length c.decode.new.slots.items ≤ word_count b → AreReceived b n r → AreDecoded b n c.decode.new.slots.items
     → HasCounted c.count_words.new.outer c.count_words.new.all c.count_words.new.current c.count_words.new.later b (n + length c.decode.new.slots.items) f limit) c.deref-3.ensures.value
     (subst (λ (z : List WordSlot). (b : List ℕ) (n f : ℕ) → HasCounted x.outer x.all x.current x.later b n f limit → n + length z ≤ word_count b → AreReceived b n c.deref-3.result.now → AreDecoded b n z
