@@ -15,7 +15,7 @@ use Rattle.cmd_modulate.specs.ModulateCommand.{cells_sent, file_of_symbols, inpu
 use Rattle.cmd_modulate.specs.declared.inputs.PacketInputs.{PacketInputs}
 use Rattle.cmd_modulate.specs.Seen.{Seen}
 use Rattle.cmd_modulate.specs.Inputs.{left_of}
-use Rattle.cmd_modulate.specs.Work.{BothRead, Ends, IsAtWork, IsWritten, KeepsOthers, TakeFew, WritesBytes, WritesCells}
+use Rattle.cmd_modulate.specs.Work.{AreOpen, BothRead, Ends, IsAtWork, IsWritten, KeepsOthers, TakeFew, WritesBytes, WritesCells}
 use Rattle.cmd_modulate.proofs.Few.{few_at_work}
 use Rattle.cmd_modulate.proofs.Fronts.{front_of}
 
@@ -30,6 +30,10 @@ keeps_cells m m' m'' p q =
       write_faults = m''.write_faults;
       pending = m''.pending;
     }) p
+
+-- the inputs stay open
+pub inputs_stay : (m m' : Meaning) (inputs : PacketInputs) → WritesCells m m' → AreOpen inputs m → AreOpen inputs m'
+inputs_stay m m' inputs keeps opened = subst (λ (x : Meaning). AreOpen inputs x) (sym keeps) (record { hp = opened.hp; lp = opened.lp })
 
 -- a prefix of the header is a prefix of the cells sent
 front_sent : (s : TheSettings) (limit : ℕ) (inputs : Inputs) (k : ℕ) → (j : ℕ) × (take k (header s.mode) ≡ take j (cells_sent s limit inputs))

@@ -7,7 +7,7 @@ ghost use Rattle.cmd_base.specs.StreamForm.{fits_form};
 ghost use Rattle.cmd_modulate.specs.ModulateCommand.{modulate_command};
 ghost use Rattle.cmd_modulate.specs.Steps.{IsReady, RunsOrLacks};
 
-use crate::run::{Names, run_modulation};
+use crate::run::{Names, modulate_all};
 use cmd_base::{Limits, Refusal, read_fitting, refuse};
 use mode_set::{Carriers, Mode, Mode2k, Mode8k, Settings};
 use modulator::Modulator;
@@ -38,7 +38,10 @@ fn modulate_in<'a, M: Carriers, S: Station<'a>>(
     let Ok(mut tx) = Modulator::<M>::new(alloc, settings) else {
         return refuse(&Refusal::Memory, station);
     };
-    run_modulation(names, limits, settings, &mut tx, &mut bytes, station)
+    match modulate_all(names, limits, settings, &mut tx, &mut bytes, station) {
+        Ok(_) => 0,
+        Err(refusal) => refuse(&refusal, station),
+    }
 }
 
 /// Runs `modulate SETTINGS HP CELLS` or, with an LP file, `modulate SETTINGS HP LP CELLS`, and returns its status.

@@ -5,14 +5,14 @@ ghost use Rattle.transmission.specs.Transmission.{Inputs};
 ghost use Rattle.cmd_base.specs.StreamForm.{fits_form};
 ghost use Rattle.cmd_base.specs.Causes.{HasEndCause};
 ghost use Rattle.cmd_modulate.specs.ModulateCommand.{files_of};
-ghost use Rattle.cmd_modulate.specs.Steps.{IsAccepted, IsNew, IsReady, Ran, RunsModulation};
+ghost use Rattle.cmd_modulate.specs.Steps.{IsAccepted, IsNew, IsReady, Ran};
 
 use crate::counts::TransmissionCounts;
 use crate::inputs::PacketInputs;
 use crate::steps::{close_refused, finish, open};
 use crate::symbols::send_file;
 use crate::transmitter::Transmitter;
-use cmd_base::{Limits, Refusal, refuse};
+use cmd_base::{Limits, Refusal};
 use mode_set::Settings;
 use station_core::Station;
 use transmission::laws::{symbols, work};
@@ -28,8 +28,9 @@ pub(crate) struct Names<'a> {
     pub cells: &'a str,
 }
 
-// From opening the ports to closing them.
-fn modulate_all<'a, T: Transmitter, S: Station<'a>>(
+/// Does a modulation with this transmitter, which has had no packet, from opening the ports to closing them. `bytes`
+/// has the length of a symbol.
+pub(crate) fn modulate_all<'a, T: Transmitter, S: Station<'a>>(
     names: Names<'a>,
     limits: &Limits,
     settings: &Settings,
@@ -66,32 +67,5 @@ fn modulate_all<'a, T: Transmitter, S: Station<'a>>(
     ) {
         Ok(counts) => finish(two, counts, station),
         Err(refusal) => Err(close_refused(refusal, station)),
-    }
-}
-
-/// Runs a modulation with this transmitter, which has had no packet, and returns its status. `bytes` has the length of
-/// a symbol.
-pub(crate) fn run_modulation<'a, T: Transmitter, S: Station<'a>>(
-    names: Names<'a>,
-    limits: &Limits,
-    settings: &Settings,
-    tx: &mut T,
-    bytes: &mut [u8],
-    station: &mut S,
-) -> u8
-    requires ready { IsReady (S.meaning station.old) }
-    requires few { limits.now.packets ≤ 100000000 }
-    requires same { (T.seen tx.old).settings ≡ settings.now }
-    requires form { fits_form (T.seen tx.old).settings (option_copied names.lp) ≡ true }
-    requires new { IsNew (T.seen tx.old) }
-    requires stands { (inputs : Inputs) → T.stands tx.old inputs }
-    requires long { length bytes.old ≡ T.symbol_len }
-    requires some { 0 < T.symbol_len }
-    ensures runs { RunsModulation (T.seen tx.old).settings limits.now.packets names.entry.hp.now
-        (option_copied names.entry.lp) names.entry.cells.now (S.meaning station.old) (S.meaning station.new) result }
-{
-    match modulate_all(names, limits, settings, tx, bytes, station) {
-        Ok(_) => 0,
-        Err(refusal) => refuse(&refusal, station),
     }
 }

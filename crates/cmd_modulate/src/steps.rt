@@ -1,12 +1,12 @@
 // The steps of a run: the ports are opened, and closed after the work.
-ghost use Rattle.std.specs.Prelude.{◌≡◌, ◌≤◌, ◌++◌, [], true, false, None, OnErr, if◌then◌else◌};
+ghost use Rattle.std.specs.Prelude.{◌≡◌, ◌≤◌, [], true, false, None, OnErr, if◌then◌else◌};
 ghost use Rattle.mode_set.specs.declared.modes.Stream.TheVariants.{Lp};
 ghost use Rattle.std.specs.Option.{option_copied};
 ghost use Rattle.station_core.specs.Causes.{Rose};
 ghost use Rattle.cmd_base.specs.Packets.{packets_line};
 ghost use Rattle.cmd_base.specs.Causes.{HasCause, HasEndCause};
 ghost use Rattle.cmd_base.specs.Lines.{IsWriting, WritesLines};
-ghost use Rattle.cmd_modulate.specs.ModulateCommand.{super_frames_line, transmission_lines};
+ghost use Rattle.cmd_modulate.specs.ModulateCommand.{transmission_lines};
 ghost use Rattle.cmd_modulate.specs.Reporting.{Finishes, IsFinish};
 ghost use Rattle.cmd_modulate.specs.Steps.{ClosesOutput, ClosesRefused, OpensAll, OpensLp};
 
@@ -55,40 +55,19 @@ pub(crate) fn open<'a, S: Station<'a>>(
 }
 
 // Writes the closing line of LP, if there is LP.
-fn write_lp_line<'a, S: Station<'a>>(
-    two: bool,
-    counts: &Counts,
-    station: &mut S,
-) -> Result<(), Refusal>
+fn write_lp<'a, S: Station<'a>>(two: bool, lp: &Counts, station: &mut S) -> Result<(), Refusal>
     requires created { (S.meaning station.old).report.created ≡ true }
     requires report_open { (S.meaning station.old).report.closed ≡ false }
     ensures cause { HasCause (S.meaning station.old) (S.meaning station.new) result }
     ensures kind { IsWriting result }
-    ensures writes { WritesLines (if two then packets_line Lp counts.now else []) (S.meaning station.old)
+    ensures writes { WritesLines (if two then packets_line Lp lp.now else []) (S.meaning station.old)
         (S.meaning station.new) result }
 {
     if two {
-        write_line(&packets_line_of(Stream::Lp, counts), station)
+        write_line(&packets_line_of(Stream::Lp, lp), station)
     } else {
         Ok(())
     }
-}
-
-// Writes the closing line of LP, if there is LP, and that of the super-frames.
-fn write_lp_and_frames<'a, S: Station<'a>>(
-    two: bool,
-    counts: &TransmissionCounts,
-    station: &mut S,
-) -> Result<(), Refusal>
-    requires created { (S.meaning station.old).report.created ≡ true }
-    requires report_open { (S.meaning station.old).report.closed ≡ false }
-    ensures cause { HasCause (S.meaning station.old) (S.meaning station.new) result }
-    ensures kind { IsWriting result }
-    ensures writes { WritesLines ((if two then packets_line Lp counts.now.lp else [])
-        ++ super_frames_line counts.now.super_frames) (S.meaning station.old) (S.meaning station.new) result }
-{
-    write_lp_line(two, &counts.lp, station)?;
-    write_line(&super_frames_line_of(counts.super_frames), station)
 }
 
 // Writes the closing lines.
@@ -105,7 +84,8 @@ fn write_lines<'a, S: Station<'a>>(
         result }
 {
     write_line(&packets_line_of(Stream::Hp, &counts.hp), station)?;
-    write_lp_and_frames(two, counts, station)
+    write_lp(two, &counts.lp, station)?;
+    write_line(&super_frames_line_of(counts.super_frames), station)
 }
 
 /// Writes the closing lines and closes the output, even if a line was not written.

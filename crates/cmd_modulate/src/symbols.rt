@@ -123,55 +123,16 @@ fn next_symbol<'a, T: Transmitter, S: Station<'a>>(
     send_symbol(tx, bytes, station)
 }
 
-// Sends all symbols of the transmission. It ends with the first super-frame that completes all packets of the ended
-// inputs and eleven words more. If there is no such super-frame, it continues to the limit.
-fn send_all<'a, T: Transmitter, S: Station<'a>>(
-    limits: &Limits,
-    settings: &Settings,
-    mut inputs: PacketInputs,
-    tx: &mut T,
-    bytes: &mut [u8],
-    station: &mut S,
-) -> Result<TransmissionCounts, Refusal>
-    requires few { limits.now.packets ≤ 100000000 }
-    requires same { (T.seen tx.old).settings ≡ settings.now }
-    requires two { inputs.lp.tail ≡ None → IsTrue (exists_in (T.seen tx.old).settings Lp) }
-    requires none_made { (T.seen tx.old).made ≡ 0 }
-    requires long { length bytes.old ≡ T.symbol_len }
-    requires some { 0 < T.symbol_len }
-    requires created { (S.meaning station.old).cells_out.created ≡ true }
-    requires open { (S.meaning station.old).cells_out.closed ≡ false }
-    requires inputs_open { AreOpen inputs (S.meaning station.old) }
-    requires within { AreWithin limits.now.packets inputs }
-    ensures others { KeepsOthers (S.meaning station.old) (S.meaning station.new) }
-    ensures cause { HasCause (S.meaning station.old) (S.meaning station.new) result }
-    ensures modulates { IsTrue (S.meaning station.old).tells → (files : AnyStream → List ℕ)
-        → IsWritten limits.now.packets files (S.meaning station.old) inputs (T.seen tx.old) (T.stands tx.old)
-        → Modulates (T.seen tx.old).settings limits.now.packets files (S.meaning station.new) result }
-{
-    symbol_parameters::laws::settings();
-    work();
-    packets();
-    super_frames();
-    for symbol in 0..settings.max_symbols {
-        next_symbol(limits.packets, &mut inputs, tx, bytes, station)?;
-        match inputs.counts_at::<T>(settings, symbol as u64 + 1) {
-            Some(counts) => return Ok(counts),
-            None => {}
-        }
-    }
-    Err(Refusal::Limit(settings.max_symbols as u64))
-}
-
 /// Sends the cell file: its header, then all symbols of the transmission. It ends with the first super-frame that
-/// completes all packets of the ended inputs and eleven words more.
+/// completes all packets of the ended inputs and eleven words more. If there is no such super-frame, it continues to
+/// the limit.
 ///
 /// It returns the counts, or the first refusal: one symbol more than the limit, one packet more than the limit, a
 /// packet without its sync byte, a fault.
 pub(crate) fn send_file<'a, T: Transmitter, S: Station<'a>>(
     limits: &Limits,
     settings: &Settings,
-    inputs: PacketInputs,
+    mut inputs: PacketInputs,
     tx: &mut T,
     bytes: &mut [u8],
     station: &mut S,
@@ -193,7 +154,18 @@ pub(crate) fn send_file<'a, T: Transmitter, S: Station<'a>>(
         → (S.meaning station.old).cells_out.written ≡ []
         → Modulates (T.seen tx.old).settings limits.now.packets files (S.meaning station.new) result }
 {
+    symbol_parameters::laws::settings();
+    work();
+    packets();
+    super_frames();
     symbols();
     write_header(settings.mode, station)?;
-    send_all(limits, settings, inputs, tx, bytes, station)
+    for symbol in 0..settings.max_symbols {
+        next_symbol(limits.packets, &mut inputs, tx, bytes, station)?;
+        match inputs.counts_at::<T>(settings, symbol as u64 + 1) {
+            Some(counts) => return Ok(counts),
+            None => {}
+        }
+    }
+    Err(Refusal::Limit(settings.max_symbols as u64))
 }

@@ -12,8 +12,8 @@ some_carriers : (m : Mode) → 0 < carriers m
 some_carriers M2k = omega arith
 some_carriers M8k = omega arith
 
-pub run_modulation-requires : goal.run_modulation-requires
-run_modulation-requires g c κs =
+pub modulate_all-requires : goal.modulate_all-requires
+modulate_all-requires g c κs =
     let e = c.in-Ok-new.ensures in
     let some : 0 < 5 * g.M.Carriers.K = omega (arith, some_carriers g.M.Carriers.MODE, g.M.Carriers.k_of) in
     let lp : Option (List ℕ) = option_copied c.args.names.lp in (

@@ -3,7 +3,7 @@ use Rattle.mode_set.specs.declared.modes.Stream.{Stream}
 use Rattle.transmission.specs.SuperFrames.{symbols_of}
 use Rattle.cmd_modulate.specs.ModulateCommand.{inputs_of}
 use Rattle.cmd_modulate.specs.Work.{AreOpen, AreWithin, IsWritten, KeepsOthers}
-use Rattle.cmd_modulate.proofs.symbols.send_all.Given as goal
+use Rattle.cmd_modulate.proofs.symbols.send_file.Given as goal
 
 -- one symbol for each pass was sent, and the transmission has more
 abbrev pub invariant-loop-symbol : goal.invariant-loop-symbol
