@@ -1,7 +1,7 @@
 // The inner decoders of two streams in parallel.
 ghost use Rattle.std.specs.Prelude.{IsTrue};
 ghost use Rattle.std.specs.Fork.{AcceptsAt, ChangesAt};
-ghost use Rattle.word_workers.specs.Symbols.{MayRun, HasRun, MayRunOver, HasRunOver};
+ghost use Rattle.word_workers.specs.Symbols.{MayRunOver, HasRunOver};
 
 use crate::gate::{Gate, Job};
 use acs_plain::Acs;
@@ -14,16 +14,6 @@ use survivor_ring::Survivors;
 /// The number of pairs of two streams from which a thread pays off. A thread costs 22 microseconds, as much as some
 /// 3,000 steps.
 const PAYS: usize = 10_000;
-
-/// Enters the gate with the number of a decoder, and runs a symbol on it.
-fn run_one<G: Gate, A: Acs, V: Survivors<2048>>(gate: &G, piece: u32, branch: &mut Branch<A, V>)
-    requires may { MayRun branch.old }
-    ensures has { HasRun branch.old branch.new }
-    ensures entered { IsTrue (G.has_entered gate.now Job.Inner piece) }
-{
-    gate.enter(Job::Inner, piece);
-    branch.run_symbol();
-}
 
 /// Enters the gate with the number of a decoder, and runs these pairs on it.
 fn run_one_over<G: Gate, A: Acs, V: Survivors<2048>>(
@@ -49,13 +39,12 @@ fn on_one<T, F: Fn(u32, &mut T)>(work: &F, piece: u32, thing: &mut T)
 }
 
 /// Does a piece of work on each of two items in parallel: piece 0 on the first, piece 1 on the second.
-fn on_both<R: Threads + Sync, T: Send, F: Fn(u32, &mut T) + Sync, H: Fn(u32, &mut T) + Sync>(
-    rt: &R,
-    on_first: &F,
-    on_second: &H,
-    first: &mut T,
-    second: &mut T,
-)
+pub(crate) fn on_both<
+    R: Threads + Sync,
+    T: Send,
+    F: Fn(u32, &mut T) + Sync,
+    H: Fn(u32, &mut T) + Sync,
+>(rt: &R, on_first: &F, on_second: &H, first: &mut T, second: &mut T)
     requires first { AcceptsAt F.Fn on_first.now 0 first.old }
     requires second { AcceptsAt H.Fn on_second.now 1 second.old }
     ensures first { ChangesAt F.Fn on_first.now 0 first.old first.new }
@@ -70,31 +59,6 @@ fn on_both<R: Threads + Sync, T: Send, F: Fn(u32, &mut T) + Sync, H: Fn(u32, &mu
         ensures { ChangesAt H.Fn on_second.entry.now 1 second.entry.now second.exit.now }
     { on_one(on_second, 1, second) };
     join_mut(rt, &mut front, &mut back);
-}
-
-/// Runs a symbol on two decoders in parallel, with the result of [`Branch::run_symbol`] for each, for every gate.
-///
-/// Both meet the conditions of `run_symbol`. One of them runs in a thread of its own; if none can be started, they run
-/// one after another. HP enters the gate with [`Job::Inner`] and 0, LP with 1.
-pub fn both<R: Threads + Sync, G: Gate, A: Acs + Send, V: Survivors<2048> + Send>(
-    rt: &R,
-    gate: &G,
-    hp: &mut Branch<A, V>,
-    lp: &mut Branch<A, V>,
-)
-    requires hp { MayRun hp.old }
-    requires lp { MayRun lp.old }
-    ensures hp { HasRun hp.old hp.new }
-    ensures lp { HasRun lp.old lp.new }
-    ensures hp_entered { IsTrue (G.has_entered gate.now Job.Inner 0) }
-    ensures lp_entered { IsTrue (G.has_entered gate.now Job.Inner 1) }
-{
-    let work = |piece: u32, branch: &mut Branch<A, V>|
-        requires { MayRun branch.now }
-        ensures has { HasRun branch.entry.now branch.exit.now }
-        ensures entered { IsTrue (G.has_entered gate.entry.now Job.Inner piece) }
-    { run_one(gate, piece, branch) };
-    on_both(rt, &work, &work, hp, lp);
 }
 
 /// Steps two decoders through the pairs of a symbol of their streams, in place, with the result of [`Branch::run_over`]

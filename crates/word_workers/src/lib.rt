@@ -10,7 +10,9 @@
 mod gate;
 mod inner;
 mod outer;
+mod plain;
 
 pub use gate::{Gate, Job, OpenGate};
-pub use inner::{both, both_over};
+pub use inner::both_over;
 pub use outer::decode_all;
+pub use plain::both;
