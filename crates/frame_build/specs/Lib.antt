@@ -3,3 +3,4 @@ pub mod Symbol
 pub mod Announcing
 pub mod ReadBack
 pub mod State
+pub mod Words

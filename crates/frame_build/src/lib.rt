@@ -11,8 +11,12 @@ mod cell_file;
 mod cell_table;
 mod five_bytes;
 mod laws;
+mod plain;
+mod put_cells;
 mod symbol_in;
 mod symbol_out;
+mod tps_sign;
+mod word_carriers;
 
 pub use cell_file::header;
 pub use five_bytes::{cell_bytes, push_five};
@@ -21,3 +25,4 @@ pub use laws::{
 };
 pub use symbol_in::SymbolIn;
 pub use symbol_out::SymbolOut;
+pub use word_carriers::WordCarriers;
