@@ -187,10 +187,11 @@ impl<M: Carriers> InnerTx<M> {
         ensures next { (paths : Paths) → IsFed self.old (with_entry self.old.settings entry.now) paths hp.old lp.old
             → IsBefore self.new (behind (with_entry self.old.settings entry.now) paths) }
     {
-        let settings = self.settings.with_entry(entry);
+        let rows = &self.rows;
+        let present = self.settings.with_entry(entry);
         code(
-            &settings,
-            &self.rows,
+            &present,
+            rows,
             hp,
             &mut self.hp,
             lp,
@@ -198,7 +199,7 @@ impl<M: Carriers> InnerTx<M> {
             &mut self.parities,
         );
         write_word_labels(
-            &settings,
+            &present,
             &self.settings,
             entry,
             &self.parities,

@@ -18,8 +18,8 @@ returns-clause-labels g c =
     → take (need (with_entry st.settings c.args.entry.now) Lp) c.args.lp.now ≡ input_bits (with_entry st.settings c.args.entry.now) paths Lp
     → AreWordLabels (with_entry st.settings c.args.entry.now) (coded_bits (with_entry st.settings c.args.entry.now) paths) c.write_word_labels.new.to) seen
     (subst (λ (z : Settings). (paths : Paths) → IsBefore inside paths → take (need z Hp) c.args.hp.now ≡ input_bits z paths Hp → take (need z Lp) c.args.lp.now ≡ input_bits z paths Lp
-    → AreWordLabels z (coded_bits z paths) c.write_word_labels.new.to) c.with_entry-settings.ensures
-    (λ paths at hp lp. c.write_word_labels.ensures.labels paths (subst (λ (z : List Bool). AreAllParities c.with_entry-settings.result paths z) read (c.code.ensures.parities c.self.inside.settings paths at hp lp))))) paths fed.0 fed.1 fed.2
+    → AreWordLabels z (coded_bits z paths) c.write_word_labels.new.to) c.with_entry-present.ensures
+    (λ paths at hp lp. c.write_word_labels.ensures.labels paths (subst (λ (z : List Bool). AreAllParities c.with_entry-present.result paths z) read (c.code.ensures.parities c.self.inside.settings paths at hp lp))))) paths fed.0 fed.1 fed.2
 
 pub returns-clause-next : goal.returns-clause-next
 returns-clause-next g c =
@@ -29,5 +29,5 @@ returns-clause-next g c =
     → take (need (with_entry st.settings c.args.entry.now) Lp) c.args.lp.now ≡ input_bits (with_entry st.settings c.args.entry.now) paths Lp
     → IsBefore (record { settings = c.self.inside.settings; hp = c.code.new.hp_encoder; lp = c.code.new.lp_encoder }) (behind (with_entry st.settings c.args.entry.now) paths)) seen
     (subst (λ (z : Settings). (paths : Paths) → IsBefore inside paths → take (need z Hp) c.args.hp.now ≡ input_bits z paths Hp → take (need z Lp) c.args.lp.now ≡ input_bits z paths Lp
-    → IsBefore (record { settings = c.self.inside.settings; hp = c.code.new.hp_encoder; lp = c.code.new.lp_encoder }) (behind z paths)) c.with_entry-settings.ensures
+    → IsBefore (record { settings = c.self.inside.settings; hp = c.code.new.hp_encoder; lp = c.code.new.lp_encoder }) (behind z paths)) c.with_entry-present.ensures
     (λ paths at hp lp. c.code.ensures.next c.self.inside.settings paths at hp lp))) paths fed.0 fed.1 fed.2
