@@ -67,7 +67,7 @@ signal s m turned labels k e =
     ap (λ (b : Bool). xor b (reference k)) e ∙ sym (sign_is (tps_word (signalled s (frame_of m))) k (m % 68)) in
     ap (real 16384) signs
 
-pub data_cell : (s : Settings) (m : ℕ) (labels : List ℕ) (k q : ℕ) → map_cell s.shape s.hierarchy (bits_of labels q) ≡ cell_of_kind s m (bits_of labels) k (Payload q)
+pub data_cell : (s : Settings) (m : ℕ) (labels : ℕ → ℕ → Bool) (k q : ℕ) → map_cell s.shape s.hierarchy (labels q) ≡ cell_of_kind s m labels k (Payload q)
 unfolding cell_of_kind
 data_cell s m labels k q = refl
 
@@ -142,15 +142,15 @@ signal_bytes true false label = refl
 signal_bytes false true label = refl
 signal_bytes false false label = refl
 
-pub kind_sent : (now next : Settings) (m : ℕ) (turned : Bool) (labels : List ℕ) (k q : ℕ) (kd : CarrierKind) (label : List ℕ) → turned ≡ is_turned (tps_word (signalled next (frame_of m))) (m % 68)
-    → (kd ≡ Payload q → label ≡ sent_bytes (map_cell now.shape now.hierarchy (bits_of labels q))) → ((p : ℕ) → kd ≡ Payload p → p ≡ q)
-    → bytes_sent (source_of kd (reference k)) turned label ≡ sent_bytes (cell_of_kind (settings_for now next kd) m (bits_of labels) k kd)
-kind_sent now next m turned labels k q Continual label e is same = pilot_bytes (reference k) turned label ∙ ap sent_bytes (pilot now m (bits_of labels) k)
-kind_sent now next m turned labels k q Scattered label e is same = pilot_bytes (reference k) turned label ∙ ap sent_bytes (scattered now m (bits_of labels) k)
-kind_sent now next m turned labels k q Tps label e is same = signal_bytes (reference k) turned label ∙ ap sent_bytes (signal next m turned (bits_of labels) k e)
+pub kind_sent : (now next : Settings) (m : ℕ) (turned : Bool) (labels : ℕ → ℕ → Bool) (k q : ℕ) (kd : CarrierKind) (label : List ℕ) → turned ≡ is_turned (tps_word (signalled next (frame_of m))) (m % 68)
+    → (kd ≡ Payload q → label ≡ sent_bytes (map_cell now.shape now.hierarchy (labels q))) → ((p : ℕ) → kd ≡ Payload p → p ≡ q)
+    → bytes_sent (source_of kd (reference k)) turned label ≡ sent_bytes (cell_of_kind (settings_for now next kd) m labels k kd)
+kind_sent now next m turned labels k q Continual label e is same = pilot_bytes (reference k) turned label ∙ ap sent_bytes (pilot now m labels k)
+kind_sent now next m turned labels k q Scattered label e is same = pilot_bytes (reference k) turned label ∙ ap sent_bytes (scattered now m labels k)
+kind_sent now next m turned labels k q Tps label e is same = signal_bytes (reference k) turned label ∙ ap sent_bytes (signal next m turned labels k e)
 kind_sent now next m turned labels k q (Payload p) label e is same =
     let number_is : p ≡ q = same p refl in
-    is (ap Payload number_is) ∙ ap (λ (z : ℕ). sent_bytes (map_cell now.shape now.hierarchy (bits_of labels z))) (sym number_is) ∙ ap sent_bytes (data_cell now m labels k p)
+    is (ap Payload number_is) ∙ ap (λ (z : ℕ). sent_bytes (map_cell now.shape now.hierarchy (labels z))) (sym number_is) ∙ ap sent_bytes (data_cell now m labels k p)
 
 number_in : CarrierKind → ℕ
 number_in Continual = 0
@@ -170,7 +170,7 @@ unfolding announcing_cell
 carrier_sent mo now next m l turned labels k q source label em el et e eq is =
     let same : kind mo l k ≡ kind now.mode (m % 68) k = ap (λ (z : Mode). kind z l k) (sym em) ∙ ap (λ (z : ℕ). kind now.mode z k) (sym el) in
     ap (λ (z : CarrierContent). bytes_sent z turned label) e
-    ∙ kind_sent now next m turned labels k q (kind mo l k) label et (λ p. is)
+    ∙ kind_sent now next m turned (bits_of labels) k q (kind mo l k) label et (λ p. is)
     (λ p ep. let label_source : source ≡ Label = e ∙ ap (λ (z : CarrierKind). source_of z (reference k)) ep in
     payload_same p q (sym ep ∙ is_next_label mo l k source e label_source ∙ ap Payload (sym eq)))
     ∙ ap (λ (z : CarrierKind). sent_bytes (cell_of_kind (settings_for now next z) m (bits_of labels) k z)) same
@@ -327,7 +327,7 @@ repeats s t m labels =
     same_flat_map (λ k. sent_bytes (announcing_cell s t m labels k)) (λ k. sent_bytes (announcing_cell s t (m % 272) labels k)) (λ k. ap sent_bytes (same_cells s t m (m % 272) labels k symbols frames)) (numbers (carriers s.mode))
 
 -- functions that agree below n
-same_below : (f g : ℕ → List ℕ) (a n : ℕ) → ((i : ℕ) → i < n → f (a + i) ≡ g (a + i)) → flat_map f (range_with_len a n) ≡ flat_map g (range_with_len a n)
+pub same_below : (f g : ℕ → List ℕ) (a n : ℕ) → ((i : ℕ) → i < n → f (a + i) ≡ g (a + i)) → flat_map f (range_with_len a n) ≡ flat_map g (range_with_len a n)
 same_below f g a zero same = refl
 same_below f g a (suc n) same =
     let here : a + 0 ≡ a = omega arith in

@@ -4,3 +4,4 @@ pub mod Announcing
 pub mod ReadBack
 pub mod State
 pub mod Reading
+pub mod Words

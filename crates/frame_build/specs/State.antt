@@ -1,6 +1,6 @@
 -- The state of a symbol builder.
 use Rattle.std.specs.Prelude.{◌≡◌, ◌≢◌, ℕ, zero, suc, ◌≤◌, ◌<◌, Bool, false, if◌then◌else◌, List, [], ◌∷◌, get_or}
-use Rattle.std.specs.Prelude.{length, count_by, not, true, take, ◌+◌, ◌*◌, ◌^◌}
+use Rattle.std.specs.Prelude.{length, count_by, flat_map, not, true, take, ◌+◌, ◌*◌, ◌^◌}
 use Rattle.spec_words.specs.Bits.{bit, xor, is_set}
 use Rattle.spec_words.specs.Words.{numbers}
 use Rattle.mode_set.specs.StreamTable.{carriers, label_bits, payload}
@@ -110,6 +110,10 @@ pub record ArePlaces (m : Mode) (turned : Bool) (labels places : List ℕ) : Typ
 -- the first n cells with three bytes more
 abbrev pub AreWider : List (List ℕ) → List (List ℕ) → ℕ → Type 0
 AreWider cells wide n = (i : ℕ) → i < n → take 5 (get_or wide i []) ≡ get_or cells i []
+
+-- the bytes of the first n carriers: the cell of each is at the place of its index
+unfoldable pub bytes_at : List (List ℕ) → List ℕ → List ℕ → ℕ → List ℕ
+bytes_at cells places indices n = flat_map (λ k. get_or cells (get_or places (get_or indices k 0) 0) []) (numbers n)
 
 -- the next symbol of a super-frame, and the indices of the carriers' cells in symbols 0 to 3
 pub record IsReady (m : Mode) (s : Settings) (number : ℕ) (lists : List (List ℕ)) : Type 0 where

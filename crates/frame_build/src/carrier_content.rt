@@ -69,7 +69,7 @@ pub(crate) fn source_at<M: Carriers>(l: u8, k: u32) -> CarrierContent
 }
 
 // The index of the cell of carrier `k` of symbol `l`: the number of its label, or one of the four after all labels.
-fn index_at<M: Carriers>(l: u8, k: u32) -> u16
+pub(crate) fn index_at<M: Carriers>(l: u8, k: u32) -> u16
     requires symbol { l < 68 }
     requires carrier { k < M.K }
     ensures { result ≡ index_of M.MODE (kind M.MODE l k) (reference k) }

@@ -99,7 +99,7 @@ fn widened(cells: &[[u8; 5]; 72]) -> [[u8; 8]; 72]
 }
 
 // The places of the cells that belong to no label, by their indices.
-fn other_places(turned: bool) -> [u8; 4]
+pub(crate) fn other_places(turned: bool) -> [u8; 4]
     ensures { result ≡ other_places turned }
 {
     if turned {
@@ -182,8 +182,8 @@ impl CellTable {
     }
 
     // The cell of an index, whose bytes are the first five.
-    pub(crate) fn wide(&self, places: &[u8; 6052], index: usize) -> [u8; 8]
-        requires index { index < 6052 }
+    pub(crate) fn wide(&self, places: &[u8], index: usize) -> [u8; 8]
+        requires index { index < length places.now }
         requires place { get_or places.now index 0 < 72 }
         ensures { take 5 result ≡ get_or self.now.cells (get_or places.now index 0) [] }
     {
@@ -191,8 +191,8 @@ impl CellTable {
     }
 
     // The bytes of the cell of an index.
-    pub(crate) fn five(&self, places: &[u8; 6052], index: usize) -> [u8; 5]
-        requires index { index < 6052 }
+    pub(crate) fn five(&self, places: &[u8], index: usize) -> [u8; 5]
+        requires index { index < length places.now }
         requires place { get_or places.now index 0 < 72 }
         ensures { result ≡ get_or self.now.cells (get_or places.now index 0) [] }
     {

@@ -12,9 +12,12 @@ mod cell_table;
 mod five_bytes;
 mod laws;
 pub mod plain;
+mod put_cells;
 mod read_cells;
 mod symbol_in;
 mod symbol_out;
+mod tps_sign;
+mod word_carriers;
 
 pub use cell_file::header;
 pub use five_bytes::{cell_bytes, push_five};
@@ -23,3 +26,4 @@ pub use laws::{
 };
 pub use symbol_in::SymbolIn;
 pub use symbol_out::SymbolOut;
+pub use word_carriers::WordCarriers;

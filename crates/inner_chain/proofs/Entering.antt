@@ -20,7 +20,6 @@ use Rattle.mode_set.specs.declared.modes.Stream.TheVariants.{Hp, Lp}
 use Rattle.mode_set.specs.declared.settings.Settings.{Settings}
 use Rattle.puncture.specs.SentBits.{sent_bit}
 use Rattle.bit_interleave.specs.Place.{place_in_label, word_of_bit, stands_at, stream_at, IsSent, EachBitIsFound}
-use Rattle.symbol_interleave.specs.Carried.{carried}
 use Rattle.inner_chain.specs.Labels.{parity_at, number_at}
 use Rattle.inner_chain.specs.Tables.{first_step, IsEntry, AppendsEntries, most_steps}
 
@@ -197,12 +196,12 @@ entries_more s w count old mid new n a here e = record {
             subst (λ (z : ℕ). IsEntry s q w z) (sym (get_or_push a.more n 0 q last)) (subst (λ (z : ℕ). IsEntry s z w n) same here)
 
 -- the entries of the first n places
-pub record AreEntriesBelow (s : Settings) (odd : Bool) (n : ℕ) (entries : List ℕ) : Type 0 where
+pub record AreEntriesBelow (s : Settings) (word : ℕ → ℕ) (n : ℕ) (entries : List ℕ) : Type 0 where
   pub long : length entries ≡ n * label_bits s.shape
-  pub at : (q e : ℕ) → q < n → e < label_bits s.shape → IsEntry s e (carried s.mode odd q) (slice_index entries (q * label_bits s.shape + e))
+  pub at : (q e : ℕ) → q < n → e < label_bits s.shape → IsEntry s e (word q) (slice_index entries (q * label_bits s.shape + e))
 
-pub words_more : (s : Settings) (odd : Bool) (n w : ℕ) (old new : List ℕ) → AreEntriesBelow s odd n old → AppendsEntries s w (label_bits s.shape) old new → w ≡ carried s.mode odd n → AreEntriesBelow s odd (n + 1) new
-words_more s odd n w old new b a ew = record { long = long; at = at }
+pub words_more : (s : Settings) (word : ℕ → ℕ) (n w : ℕ) (old new : List ℕ) → AreEntriesBelow s word n old → AppendsEntries s w (label_bits s.shape) old new → w ≡ word n → AreEntriesBelow s word (n + 1) new
+words_more s word n w old new b a ew = record { long = long; at = at }
   where
     v : ℕ
     v = label_bits s.shape
@@ -211,22 +210,22 @@ words_more s odd n w old new b a ew = record { long = long; at = at }
     long = let next : (n + 1) * v ≡ n * v + v = omega arith in
         ap (λ (zs : List ℕ). length zs) a.is ∙ length-append old a.more ∙ ap (λ (z : ℕ). z + length a.more) b.long ∙ ap (λ (z : ℕ). n * v + z) a.long ∙ sym next
 
-    at : (q e : ℕ) → q < n + 1 → e < v → IsEntry s e (carried s.mode odd q) (slice_index new (q * v + e))
+    at : (q e : ℕ) → q < n + 1 → e < v → IsEntry s e (word q) (slice_index new (q * v + e))
     at q e l m = go (cases_lt q n)
       where
-        go : (q < n) ⊎ (n ≤ q) → IsEntry s e (carried s.mode odd q) (slice_index new (q * v + e))
+        go : (q < n) ⊎ (n ≤ q) → IsEntry s e (word q) (slice_index new (q * v + e))
         go (inl less) =
             let row : (q + 1) * v ≤ n * v = mul-le-mul_right v (omega (arith, less)) in
             let within : q * v + e < length old = omega (arith, row, m, b.long) in
             let same : slice_index new (q * v + e) ≡ slice_index old (q * v + e) = ap (λ (zs : List ℕ). slice_index zs (q * v + e)) a.is ∙ get_or_append_left old a.more 0 (q * v + e) within in
-            subst (λ (z : ℕ). IsEntry s e (carried s.mode odd q) z) (sym same) (b.at q e less m)
+            subst (λ (z : ℕ). IsEntry s e (word q) z) (sym same) (b.at q e less m)
         go (inr more) =
             let same : n ≡ q = omega (arith, l, more) in
             let place : q * v + e - n * v ≡ e = omega (arith, ap (λ (z : ℕ). z * v) same) in
             let past : n * v ≤ q * v + e = omega (arith, ap (λ (z : ℕ). z * v) same) in
             let here : slice_index new (q * v + e) ≡ slice_index a.more e = ap (λ (zs : List ℕ). slice_index zs (q * v + e)) a.is ∙ get_or-append_right old a.more (n * v) (q * v + e) 0 b.long past ∙ ap (slice_index a.more) place in
-            let word : IsEntry s e (carried s.mode odd n) (slice_index a.more e) = subst (λ (z : ℕ). IsEntry s e z (slice_index a.more e)) ew (a.at e m) in
-            subst (λ (z : ℕ). IsEntry s e (carried s.mode odd q) z) (sym here) (subst (λ (z : ℕ). IsEntry s e (carried s.mode odd z) (slice_index a.more e)) same word)
+            let entry : IsEntry s e (word n) (slice_index a.more e) = subst (λ (z : ℕ). IsEntry s e z (slice_index a.more e)) ew (a.at e m) in
+            subst (λ (z : ℕ). IsEntry s e (word q) z) (sym here) (subst (λ (z : ℕ). IsEntry s e (word z) (slice_index a.more e)) same entry)
 
 -- six bits of a label at most
 pub six : (n : ℕ) (c : Shape) → n * label_bits c ≤ 6 * n

@@ -1,5 +1,5 @@
 -- Labels bit by bit.
-use Rattle.std.proofs.Common.{◌≡◌, ℕ, suc, ◌+◌, ◌-◌, ◌*◌, ◌^◌, ◌<◌, ◌≤◌, ◌⊎◌, inl, inr, Bool, true, false, List, [], ◌∷◌, ◌++◌, append_assoc, length, refl, sym, ap, ◌∙◌, subst, arith}
+use Rattle.std.proofs.Common.{◌≡◌, ℕ, suc, ◌+◌, ◌-◌, ◌*◌, ◌^◌, ◌<◌, ◌≤◌, ◌≢◌, ◌⊎◌, inl, inr, Bool, true, false, List, [], ◌∷◌, ◌++◌, append_assoc, length, set, refl, sym, ap, ◌∙◌, subst, arith}
 use Rattle.std.specs.Prelude.{slice_index, ◌==◌}
 use Rattle.std.specs.Int.{bit_at}
 use mir.Val.{bool_byte}
@@ -7,8 +7,8 @@ use Rattle.std.proofs.Math.Nat.{pow-le-pow_right, pow-suc}
 use Rattle.std.proofs.lemmas.Nat.Bits.{bit_at_cat_low, bit_at_cat_high}
 use Rattle.std.proofs.lemmas.Bool.{cases_lt}
 use Rattle.spec_words.specs.Bits.{is_set}
-use Rattle.std.proofs.lemmas.List.{get_or_append_left, get_or_push, length_push}
-use Rattle.inner_chain.specs.Tables.{read_bit, IsGathered, AppendsGathered}
+use Rattle.std.proofs.lemmas.List.{get_or_append_left, get_or_push, length_push, get_or-set_same, get_or-set_other}
+use Rattle.inner_chain.specs.Tables.{read_bit, IsGathered, AreGathered, AppendsGathered}
 
 pub bool_small : (b : Bool) → bool_byte b < 2
 bool_small true = omega arith
@@ -87,3 +87,22 @@ push_more xs entries n count old mid new label g here e = record {
             let last : length g.labels ≡ q = g.long ∙ same in
             let this : IsGathered xs entries (q * count) count label = subst (λ (z : ℕ). IsGathered xs entries (z * count) count label) same here in
             subst (λ (z : ℕ). IsGathered xs entries (q * count) count z) (sym (get_or_push g.labels label 0 q last)) this
+
+pub none_written : (xs : List Bool) (entries : List ℕ) (count : ℕ) (labels : List ℕ) → AreGathered xs entries 0 count labels
+none_written xs entries count labels = record { at = λ q l. absurd (omega (arith, l)) }
+
+pub written_more : (xs : List Bool) (entries : List ℕ) (n count : ℕ) (labels : List ℕ) (label : ℕ) → n < length labels → AreGathered xs entries n count labels → IsGathered xs entries (n * count) count label
+    → AreGathered xs entries (n + 1) count (set labels n label)
+written_more xs entries n count labels label within g here = record { at = at }
+  where
+    at : (q : ℕ) → q < n + 1 → IsGathered xs entries (q * count) count (slice_index (set labels n label) q)
+    at q l = go (cases_lt q n)
+      where
+        go : (q < n) ⊎ (n ≤ q) → IsGathered xs entries (q * count) count (slice_index (set labels n label) q)
+        go (inl m) =
+            let apart : q ≢ n = omega (arith, m) in
+            subst (λ (z : ℕ). IsGathered xs entries (q * count) count z) (sym (get_or-set_other labels n q label 0 apart)) (g.at q m)
+        go (inr m) =
+            let same : n ≡ q = omega (arith, l, m) in
+            let new : IsGathered xs entries (n * count) count (slice_index (set labels n label) n) = subst (λ (z : ℕ). IsGathered xs entries (n * count) count z) (sym (get_or-set_same labels n label 0 within)) here in
+            subst (λ (z : ℕ). IsGathered xs entries (z * count) count (slice_index (set labels n label) z)) same new

@@ -5,7 +5,6 @@ use Rattle.std.proofs.lemmas.Bool.{cases_lt}
 use Rattle.std.proofs.lemmas.List.{get_or-set_same, get_or-set_other}
 use Rattle.spec_words.specs.Bits.{is_set}
 use Rattle.mode_set.specs.StreamTable.{payload, label_bits}
-use Rattle.mode_set.specs.declared.modes.Mode.{Mode}
 use Rattle.mode_set.specs.declared.modes.Shape.TheVariants.{Qpsk}
 use Rattle.mode_set.specs.declared.modes.Hierarchy.TheVariants.{Flat}
 use Rattle.mode_set.specs.declared.modes.Rate.TheVariants.{R1of2}
@@ -13,11 +12,11 @@ use Rattle.mode_set.specs.declared.modes.Stream.TheVariants.{Hp}
 use Rattle.mode_set.specs.declared.settings.Settings.{Settings}
 use Rattle.puncture.specs.SentBits.{X, Y, sent, sent_bit}
 use Rattle.bit_interleave.specs.Place.{offset, place_in_label, word_of_bit, EachBitIsFound}
-use Rattle.inner_chain.specs.Labels.{Paths, coded_bits, parity_at, AppendsLabels}
-use Rattle.inner_chain.specs.Tables.{read_bit, AreAllParities, IsEntry}
-use Rattle.inner_chain.specs.Fours.{turned, ArePairs, AppendsCarried}
+use Rattle.inner_chain.specs.Labels.{parity_at}
+use Rattle.inner_chain.specs.Tables.{read_bit, IsEntry}
+use Rattle.inner_chain.specs.Fours.{turned, ArePairs}
 use Rattle.inner_chain.proofs.SentBits.{reads}
-use Rattle.inner_chain.proofs.Quads.{bit_entry, carried_are, turned_small}
+use Rattle.inner_chain.proofs.Quads.{AreRead, bit_entry, turned_small}
 
 -- ---- words
 pub none_paired : (xs : List Bool) (words : List ℕ) → ArePairs xs (126 * 0) words
@@ -101,11 +100,9 @@ entry_of_two s (suc zero) w ec eh er found l m =
 entry_of_two s (suc (suc e)) w ec eh er found l m = absurd (omega (arith, l))
 
 -- ---- the labels of a symbol
-pub twos_are : (s : Settings) (odd : Bool) (paths : Paths) (ps : List Bool) (words : List ℕ) (number : ℕ) (m : Mode) (old new : List ℕ)
-    → s.shape ≡ Qpsk → s.hierarchy ≡ Flat → s.rate_hp ≡ R1of2 → EachBitIsFound → s.mode ≡ m → number ≡ payload s.mode
-    → AreAllParities s paths ps → ArePairs ps number words → AppendsCarried words m odd (payload m) old new → AppendsLabels s odd (coded_bits s paths) old new
-twos_are s odd paths ps words number m old new ec eh er found em en all pairs a =
-    carried_are s odd paths ps words m (λ e w. 2 * turned e w + e) old new em all small at a
+pub two_words : (s : Settings) (ps : List Bool) (words : List ℕ) (number : ℕ) → s.shape ≡ Qpsk → s.hierarchy ≡ Flat → s.rate_hp ≡ R1of2 → EachBitIsFound → number ≡ payload s.mode
+    → ArePairs ps number words → AreRead s ps (λ e w. 2 * turned e w + e) words
+two_words s ps words number ec eh er found en pairs = record { small = small; at = at }
   where
     two : label_bits s.shape ≡ 2
     two = ap label_bits ec

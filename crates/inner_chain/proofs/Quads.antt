@@ -1,11 +1,11 @@
 -- Labels of six bits out of the parities of four steps a word.
-use Rattle.std.proofs.Common.{◌≡◌, map, replicate, get_or, ℕ, zero, suc, ◌+◌, ◌-◌, ◌*◌, ◌/◌, ◌%◌, ◌^◌, ◌<◌, ◌≤◌, ◌≢◌, ◌⊎◌, inl, inr, Bool, true, false, cond, List, [], ◌∷◌, ◌++◌, append_assoc, length, set, refl, sym, ap, ◌∙◌, subst, arith, eqb}
+use Rattle.std.proofs.Common.{◌≡◌, map, replicate, get_or, ℕ, zero, suc, ◌+◌, ◌-◌, ◌*◌, ◌/◌, ◌%◌, ◌^◌, ◌<◌, ◌≤◌, ◌≢◌, ◌⊎◌, inl, inr, Bool, true, false, cond, List, [], ◌∷◌, ◌++◌, append_assoc, length, set, take, refl, sym, ap, ◌∙◌, subst, arith, eqb}
 use Rattle.std.specs.Prelude.{slice_index, slice_index_or, IsTrue}
 use Rattle.std.specs.Int.{bit_at}
 use mir.Val.{bool_byte}
 use Rattle.std.proofs.lemmas.Bool.{cases_lt}
 use Rattle.std.proofs.lemmas.Nat.Bits.{bit_at_cat_low, bit_at_cat_high}
-use Rattle.std.proofs.lemmas.List.{get_or_append_left, get_or_push, length_push, get_or-set_same, get_or-set_other, length-set, get_or-map}
+use Rattle.std.proofs.lemmas.List.{get_or_append_left, get_or_push, length_push, get_or-set_same, get_or-set_other, length-set, get_or-map, get_or-take}
 use Rattle.std.proofs.lemmas.Simd.{bitmask_splat, bit_mask_l}
 use lib.Lanes.{mask_l, top, zip2}
 use mir.Syntax.{w8}
@@ -25,8 +25,8 @@ use Rattle.mode_set.specs.declared.settings.Settings.{Settings}
 use Rattle.puncture.specs.SentBits.{X, Y, sent, sent_bit}
 use Rattle.bit_interleave.specs.Place.{offset, place_in_label, word_of_bit, stream_at, EachBitIsFound}
 use Rattle.symbol_interleave.specs.Carried.{carried}
-use Rattle.inner_chain.specs.Labels.{Paths, coded_bits, parity_at, number_at, label_bit, AppendsLabels}
-use Rattle.inner_chain.specs.Tables.{first_step, read_bit, AreAllParities, IsEntry, most_steps}
+use Rattle.inner_chain.specs.Labels.{Paths, coded_bits, parity_at, number_at, label_bit, word_bit, AppendsLabels, AreWordLabels}
+use Rattle.inner_chain.specs.Tables.{first_step, read_bit, AreAllParities, IsEntry, AreGathered, AreWordEntries, most_steps}
 use Rattle.inner_chain.specs.Fours.{turned, parity_place, ArePacked, AreTurned, AppendsCarried}
 use Rattle.inner_chain.proofs.SentBits.{reads}
 use Rattle.inner_chain.proofs.Entering.{IsGoodEntry, good_entry}
@@ -430,12 +430,64 @@ place_small (suc (suc (suc (suc zero)))) l = omega arith
 place_small (suc (suc (suc (suc (suc zero))))) l = omega arith
 place_small (suc (suc (suc (suc (suc (suc e)))))) l = absurd (omega (arith, l))
 
--- words whose bits are parities of the right steps, in carrier order
-pub carried_are : (s : Settings) (odd : Bool) (paths : Paths) (ps : List Bool) (words : List ℕ) (m : Mode) (entry : ℕ → ℕ → ℕ) (old new : List ℕ) → s.mode ≡ m → AreAllParities s paths ps
-    → ((w : ℕ) → w < payload s.mode → slice_index words w < 2 ^ label_bits s.shape)
-    → ((w e : ℕ) → w < payload s.mode → e < label_bits s.shape → IsEntry s e w (entry e w) × (is_set (slice_index words w) e ≡ read_bit ps (entry e w)))
+-- words whose bits are parities of the right steps
+pub record AreRead (s : Settings) (ps : List Bool) (entry : ℕ → ℕ → ℕ) (words : List ℕ) : Type 0 where
+  pub small : (w : ℕ) → w < payload s.mode → slice_index words w < 2 ^ label_bits s.shape
+  pub at : (w e : ℕ) → w < payload s.mode → e < label_bits s.shape → IsEntry s e w (entry e w) × (is_set (slice_index words w) e ≡ read_bit ps (entry e w))
+
+-- such a bit is the coded bit at its place
+coded_is : (s : Settings) (paths : Paths) (ps : List Bool) (e w n : ℕ) (b : Bool) → AreAllParities s paths ps → IsEntry s e w n → b ≡ read_bit ps n
+    → b ≡ coded_bits s paths (stream_at s.hierarchy e) (number_at s e w)
+coded_is s paths ps e w n b all found is =
+    let σ : Stream = stream_at s.hierarchy e in
+    let t : ℕ = n / 2 - first_step s σ in
+    let place : 2 * (first_step s σ + t) + n % 2 ≡ n = omega (arith, found.from) in
+    is
+    ∙ ap (read_bit ps) (sym place)
+    ∙ all.at σ t (n % 2) (omega (arith, found.from, found.to)) (omega arith)
+    ∙ sym (found.reads (paths σ))
+
+word_is_read : (s : Settings) (bits : Stream → ℕ → Bool) (w e : ℕ) → bits (stream_at s.hierarchy e) (number_at s e w) ≡ word_bit s bits w e
+unfolding word_bit
+word_is_read s bits w e = refl
+
+-- they are the labels of the symbol's words
+pub words_are : (s : Settings) (paths : Paths) (ps : List Bool) (entry : ℕ → ℕ → ℕ) (words : List ℕ) → AreAllParities s paths ps → AreRead s ps entry words → length words ≡ payload s.mode → AreWordLabels s (coded_bits s paths) words
+words_are s paths ps entry words all r long = record {
+  long = long;
+  small = r.small;
+  bit = λ w e l le. coded_is s paths ps e w (entry e w) (is_set (slice_index words w) e) all (r.at w e l le).0 (r.at w e l le).1 ∙ word_is_read s (coded_bits s paths) w e;
+}
+
+-- and so are the first ones of a longer list
+pub first_read : (s : Settings) (ps : List Bool) (entry : ℕ → ℕ → ℕ) (words : List ℕ) (n : ℕ) → n ≡ payload s.mode → AreRead s ps entry words → AreRead s ps entry (take n words)
+first_read s ps entry words n en r = record { small = small; at = at }
+  where
+    same : (w : ℕ) → w < payload s.mode → slice_index (take n words) w ≡ slice_index words w
+    same w l = get_or-take n words w 0 (omega (arith, l, en))
+
+    small : (w : ℕ) → w < payload s.mode → slice_index (take n words) w < 2 ^ label_bits s.shape
+    small w l = subst (λ (z : ℕ). z < 2 ^ label_bits s.shape) (sym (same w l)) (r.small w l)
+
+    at : (w e : ℕ) → w < payload s.mode → e < label_bits s.shape → IsEntry s e w (entry e w) × (is_set (slice_index (take n words) w) e ≡ read_bit ps (entry e w))
+    at w e l le = ((r.at w e l le).0, ap (λ (z : ℕ). is_set z e) (same w l) ∙ (r.at w e l le).1)
+
+-- labels that were gathered by the entries of all words
+pub gathered_words : (s : Settings) (ps : List Bool) (entries words : List ℕ) (number count : ℕ) → number ≡ payload s.mode → count ≡ label_bits s.shape → AreWordEntries s entries → AreGathered ps entries number count words
+    → AreRead s ps (λ e w. slice_index entries (w * label_bits s.shape + e)) words
+gathered_words s ps entries words number count en ec a g = record { small = small; at = at }
+  where
+    small : (w : ℕ) → w < payload s.mode → slice_index words w < 2 ^ label_bits s.shape
+    small w l = subst (λ (z : ℕ). slice_index words w < 2 ^ z) ec (g.at w (omega (arith, l, en))).small
+
+    at : (w e : ℕ) → w < payload s.mode → e < label_bits s.shape
+        → IsEntry s e w (slice_index entries (w * label_bits s.shape + e)) × (is_set (slice_index words w) e ≡ read_bit ps (slice_index entries (w * label_bits s.shape + e)))
+    at w e l le = (a.at w e l le, (g.at w (omega (arith, l, en))).bit e (omega (arith, le, ec)) ∙ ap (λ (z : ℕ). read_bit ps (slice_index entries (w * z + e))) ec)
+
+-- in carrier order they are the labels of the symbol
+pub carried_are : (s : Settings) (odd : Bool) (paths : Paths) (ps : List Bool) (words : List ℕ) (m : Mode) (entry : ℕ → ℕ → ℕ) (old new : List ℕ) → s.mode ≡ m → AreAllParities s paths ps → AreRead s ps entry words
     → AppendsCarried words m odd (payload m) old new → AppendsLabels s odd (coded_bits s paths) old new
-carried_are s odd paths ps words m entry old new em all words_small words_are a =
+carried_are s odd paths ps words m entry old new em all r a =
     record { labels = a.labels; are = record { long = long; small = small; bit = bit }; is = a.is }
   where
     count : payload m ≡ payload s.mode
@@ -451,42 +503,18 @@ carried_are s odd paths ps words m entry old new em all words_small words_are a 
     is q l = a.at q (omega (arith, l, count)) ∙ ap (λ (z : Mode). slice_index words (carried z odd q)) (sym em)
 
     small : (q : ℕ) → q < payload s.mode → slice_index a.labels q < 2 ^ label_bits s.shape
-    small q l = subst (λ (z : ℕ). z < 2 ^ label_bits s.shape) (sym (is q l)) (words_small (carried s.mode odd q) (inside q l))
+    small q l = subst (λ (z : ℕ). z < 2 ^ label_bits s.shape) (sym (is q l)) (r.small (carried s.mode odd q) (inside q l))
 
     bit : (q e : ℕ) → q < payload s.mode → e < label_bits s.shape → is_set (slice_index a.labels q) e ≡ label_bit s odd (coded_bits s paths) q e
-    bit q e l le = read ∙ sym (label_is s odd (coded_bits s paths) q e)
-      where
-        w : ℕ
-        w = carried s.mode odd q
+    bit q e l le =
+        let w : ℕ = carried s.mode odd q in
+        let found = r.at w e (inside q l) le in
+        coded_is s paths ps e w (entry e w) (is_set (slice_index a.labels q) e) all found.0 (ap (λ (z : ℕ). is_set z e) (is q l) ∙ found.1) ∙ sym (label_is s odd (coded_bits s paths) q e)
 
-        σ : Stream
-        σ = stream_at s.hierarchy e
-
-        n : ℕ
-        n = entry e w
-
-        found : IsEntry s e w n
-        found = (words_are w e (inside q l) le).0
-
-        t : ℕ
-        t = n / 2 - first_step s σ
-
-        place : 2 * (first_step s σ + t) + n % 2 ≡ n
-        place = omega (arith, found.from)
-
-        read : is_set (slice_index a.labels q) e ≡ coded_bits s paths σ (number_at s e w)
-        read =
-            ap (λ (z : ℕ). is_set z e) (is q l)
-            ∙ (words_are w e (inside q l) le).1
-            ∙ ap (read_bit ps) (sym place)
-            ∙ all.at σ t (n % 2) (omega (arith, found.from, found.to)) (omega arith)
-            ∙ sym (found.reads (paths σ))
-
-pub fours_are : (s : Settings) (odd : Bool) (paths : Paths) (ps : List Bool) (bytes words : List ℕ) (number blocks : ℕ) (m : Mode) (old new : List ℕ)
-    → s.shape ≡ Qam64 → s.hierarchy ≡ Flat → s.rate_hp ≡ R2of3 → EachBitIsFound → s.mode ≡ m → number ≡ payload s.mode → blocks ≡ payload s.mode
-    → AreAllParities s paths ps → ArePacked ps number bytes → AreTurned bytes blocks words → AppendsCarried words m odd (payload m) old new → AppendsLabels s odd (coded_bits s paths) old new
-fours_are s odd paths ps bytes words number blocks m old new ec eh er found em en eb all packed words_are a =
-    carried_are s odd paths ps words m (λ e w. 8 * turned e w + parity_place e) old new em all small at a
+pub four_words : (s : Settings) (ps : List Bool) (bytes words : List ℕ) (number blocks : ℕ)
+    → s.shape ≡ Qam64 → s.hierarchy ≡ Flat → s.rate_hp ≡ R2of3 → EachBitIsFound → number ≡ payload s.mode → blocks ≡ payload s.mode
+    → ArePacked ps number bytes → AreTurned bytes blocks words → AreRead s ps (λ e w. 8 * turned e w + parity_place e) words
+four_words s ps bytes words number blocks ec eh er found en eb packed words_are = record { small = small; at = at }
   where
     six : label_bits s.shape ≡ 6
     six = ap label_bits ec

@@ -13,7 +13,7 @@ use Rattle.puncture.specs.SentBits.{bits_from}
 use Rattle.bit_interleave.specs.Place.{stream_at}
 use Rattle.symbol_interleave.specs.Carried.{carried}
 use Rattle.inner_chain.specs.Labels.{Paths, from_step, behind, input_bits, coded_bits, parity_at, number_at, label_bit, AppendsLabels}
-use Rattle.inner_chain.specs.Tables.{first_step, read_bit, AreParities, AreAllParities, AreWithin, IsEntry, AreEntries, AppendsGathered, most_steps}
+use Rattle.inner_chain.specs.Tables.{first_step, read_bit, AreParities, AreAllParities, AreWithin, IsEntry, AreEntries, AreEntriesOf, AppendsGathered, most_steps}
 use Rattle.inner_chain.proofs.Entering.{few_steps, in_all_steps}
 
 range_from : (path : ℕ → Bool) (n t u k : ℕ) → n + t ≡ u → map (from_step path n) (range_with_len t k) ≡ map path (range_with_len u k)
@@ -55,14 +55,14 @@ row_and_rest Qam64 n k l = (omega (arith, l), omega arith, omega arith)
 stream_below : (s : Settings) (σ : Stream) (n : ℕ) → first_step s σ ≤ n → n < first_step s σ + need s σ → n < need s Hp + need s Lp
 stream_below s σ n l m = omega (arith, l, m, in_all_steps s σ (n - first_step s σ) (omega (arith, l, m)))
 
-pub entries_within : (s : Settings) (odd : Bool) (entries : List ℕ) (len : ℕ) → AreEntries s odd entries → 2 * most_steps s.mode ≤ len → AreWithin entries len
-entries_within s odd entries len a e = record { at = at }
+pub entries_within : (s : Settings) (word : ℕ → ℕ) (entries : List ℕ) (len : ℕ) → AreEntriesOf s word entries → 2 * most_steps s.mode ≤ len → AreWithin entries len
+entries_within s word entries len a e = record { at = at }
   where
     at : (k : ℕ) → k < length entries → slice_index entries k < len
     at k l =
         let r = row_and_rest s.shape (payload s.mode) k (omega (arith, l, a.long)) in
-        let here : IsEntry s (k % label_bits s.shape) (carried s.mode odd (k / label_bits s.shape)) (slice_index entries k) =
-        subst (λ (z : ℕ). IsEntry s (k % label_bits s.shape) (carried s.mode odd (k / label_bits s.shape)) (slice_index entries z)) r.2 (a.at (k / label_bits s.shape) (k % label_bits s.shape) r.0 r.1) in
+        let here : IsEntry s (k % label_bits s.shape) (word (k / label_bits s.shape)) (slice_index entries k) =
+        subst (λ (z : ℕ). IsEntry s (k % label_bits s.shape) (word (k / label_bits s.shape)) (slice_index entries z)) r.2 (a.at (k / label_bits s.shape) (k % label_bits s.shape) r.0 r.1) in
         omega (arith, e, few_steps s, stream_below s (stream_at s.hierarchy (k % label_bits s.shape)) (slice_index entries k / 2) here.from here.to)
 
 pub label_is : (s : Settings) (odd : Bool) (bits : Stream → ℕ → Bool) (q e : ℕ) → label_bit s odd bits q e ≡ bits (stream_at s.hierarchy e) (number_at s e (carried s.mode odd q))

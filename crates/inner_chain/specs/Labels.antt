@@ -1,5 +1,5 @@
 -- The labels of a symbol, from the coded bits of its streams (EN 300 744, 4.3.3 to 4.3.5).
-use Rattle.std.specs.Prelude.{◌≡◌, ℕ, ◌+◌, ◌^◌, ◌<◌, ◌==◌, Bool, if◌then◌else◌, List, ◌++◌, length, slice_index}
+use Rattle.std.specs.Prelude.{◌≡◌, ℕ, ◌+◌, ◌^◌, ◌<◌, ◌==◌, Bool, if◌then◌else◌, List, ◌++◌, length, slice_index, take}
 use Rattle.spec_words.specs.Bits.{is_set}
 use Rattle.spec_words.specs.Words.{first_below}
 use Rattle.mode_set.specs.StreamTable.{payload, label_bits, coded, need, rate}
@@ -32,6 +32,17 @@ pub record AppendsLabels (s : Settings) (odd : Bool) (bits : Stream → ℕ → 
   pub are : AreLabels s odd bits labels
   pub is : new ≡ old ++ labels
 
+-- bit e of the label of word w, before the symbol interleaver
+unfoldable pub word_bit : Settings → (Stream → ℕ → Bool) → ℕ → ℕ → Bool
+word_bit s bits w e = bits (stream_at s.hierarchy e) (number_at s e w)
+
+-- the labels of a symbol in the order of its words
+pub record AreWordLabels (s : Settings) (bits : Stream → ℕ → Bool) (labels : List ℕ) : Type 0 where
+  pub long : length labels ≡ payload s.mode
+  pub small : (w : ℕ) → w < payload s.mode → slice_index labels w < 2 ^ label_bits s.shape
+  pub bit : (w e : ℕ) → w < payload s.mode → e < label_bits s.shape → is_set (slice_index labels w) e
+      ≡ word_bit s bits w e
+
 -- the state of an inner coder: the settings, and the register of each stream's encoder, oldest bit first
 pub record TxState : Type 0 where
   pub settings : Settings
@@ -58,6 +69,11 @@ IsBefore st paths = (σ : Stream) → register_of st σ ≡ bits_from (paths σ)
 -- the input bits of a symbol at the start of these paths
 abbrev pub input_bits : Settings → Paths → Stream → List Bool
 input_bits s paths σ = bits_from (paths σ) 6 (need s σ)
+
+-- the input bits of a symbol of these paths wait in the queues
+abbrev pub IsFed : TxState → Settings → Paths → List Bool → List Bool → Type 0
+IsFed st s paths hp lp = IsBefore st paths × (take (need s Hp) hp ≡ input_bits s paths Hp)
+    × (take (need s Lp) lp ≡ input_bits s paths Lp)
 
 -- the paths after the symbol
 abbrev pub behind : Settings → Paths → Paths

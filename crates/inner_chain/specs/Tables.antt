@@ -1,6 +1,6 @@
 -- The contents of the code's tables and intermediate lists.
 use Rattle.std.specs.Prelude.{◌≡◌, ℕ, ◌+◌, ◌-◌, ◌*◌, ◌/◌, ◌%◌, ◌^◌, ◌<◌, ◌≤◌, Bool, true, false, List, [], ◌∷◌, ◌++◌}
-use Rattle.std.specs.Prelude.{length, get_or, slice_index, take, drop}
+use Rattle.std.specs.Prelude.{length, get_or, slice_index, take, drop, Option, Some}
 use Rattle.spec_words.specs.Bits.{is_set, spelled}
 use Rattle.code_paths.specs.Paths.{parity_x, parity_y}
 use Rattle.mode_set.specs.StreamTable.{payload, label_bits, need, rate}
@@ -70,11 +70,23 @@ pub record IsEntry (s : Settings) (e w n : ℕ) : Type 0 where
   pub reads : (path : ℕ → Bool) → sent_bit (rate s (stream_at s.hierarchy e)) path (number_at s e w)
       ≡ parity_at (n % 2) path (n / 2 - first_step s (stream_at s.hierarchy e))
 
--- the entries of all labels of a symbol in carrier order
-pub record AreEntries (s : Settings) (odd : Bool) (entries : List ℕ) : Type 0 where
+-- the entries of the labels of as many words as a symbol has: word 0 of these words first
+pub record AreEntriesOf (s : Settings) (word : ℕ → ℕ) (entries : List ℕ) : Type 0 where
   pub long : length entries ≡ payload s.mode * label_bits s.shape
   pub at : (q e : ℕ) → q < payload s.mode → e < label_bits s.shape
-      → IsEntry s e (carried s.mode odd q) (slice_index entries (q * label_bits s.shape + e))
+      → IsEntry s e (word q) (slice_index entries (q * label_bits s.shape + e))
+
+-- the entries of all labels of a symbol in carrier order
+abbrev pub AreEntries : Settings → Bool → List ℕ → Type 0
+AreEntries s odd entries = AreEntriesOf s (carried s.mode odd) entries
+
+-- the same in the order of words
+abbrev pub AreWordEntries : Settings → List ℕ → Type 0
+AreWordEntries s entries = AreEntriesOf s (λ w. w) entries
+
+-- the first `number` labels of a list, each read at `count` entries
+pub record AreGathered (xs : List Bool) (entries : List ℕ) (number count : ℕ) (labels : List ℕ) : Type 0 where
+  pub at : (q : ℕ) → q < number → IsGathered xs entries (q * count) count (slice_index labels q)
 
 -- the entries of the first `count` label bits of a word are appended to a list
 pub record AppendsEntries (s : Settings) (w count : ℕ) (old new : List ℕ) : Type 0 where
@@ -92,15 +104,23 @@ pub record IsLabelTable (s : Settings) (odd : Bool) (entries : List ℕ) (room :
   pub are : AreEntries s odd entries
   pub spare : 6 * payload s.mode ≤ room
 
+-- the table of the entries of the labels in the order of words, for the parameters in it if it has any, with space for
+-- any parameters
+pub record IsWordTable (s : Settings) (latest : Option Entry) (entries : List ℕ) (room : ℕ) : Type 0 where
+  pub are : (e : Entry) → latest ≡ Some e → AreWordEntries (with_entry s e) entries
+  pub spare : 6 * payload s.mode ≤ room
+
 -- The state of an inner coder of a mode. Its tables are those of the last symbol's parameters, and it has space for the
 -- parities of the most steps.
 pub record IsTx (m : Mode) (s : Settings) (latest : Entry) (hp lp : List Bool) (even odd : List ℕ)
-    (even_room odd_room : ℕ) (rows : List (List Bool)) (parities : List Bool) : Type 0 where
+    (even_room odd_room : ℕ) (word_latest : Option Entry) (words : List ℕ) (words_room : ℕ)
+    (rows : List (List Bool)) (parities : List Bool) : Type 0 where
   pub mode : s.mode ≡ m
   pub hp_long : length hp ≡ 6
   pub lp_long : length lp ≡ 6
   pub even_table : IsLabelTable (with_entry s latest) false even even_room
   pub odd_table : IsLabelTable (with_entry s latest) true odd odd_room
+  pub word_table : IsWordTable s word_latest words words_room
   pub are_rows : AreRows rows 1024
   pub room : 2 * most_steps s.mode ≤ length parities
 

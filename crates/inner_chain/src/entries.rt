@@ -1,7 +1,7 @@
 // The entries of the tables from which labels are gathered.
 ghost use Rattle.std.specs.Prelude.{◌≡◌, ◌+◌, ◌*◌, ◌<◌, ◌≤◌, IfOk, vec_capacity, vec_len};
 ghost use Rattle.mode_set.specs.StreamTable.{label_bits, need, payload};
-ghost use Rattle.inner_chain.specs.Tables.{AppendsEntries, IsEntry, IsLabelTable, first_step};
+ghost use Rattle.inner_chain.specs.Tables.{AppendsEntries, AreWordEntries, IsEntry, IsLabelTable, first_step};
 
 use crate::sent_parity::parity_of;
 use bit_interleave::bit_at;
@@ -60,6 +60,18 @@ pub(crate) fn write_entries<M: Carriers>(
     table.clear();
     for q in 0..settings.mode.payload() {
         push_word(settings, permutation.source(odd, q), table);
+    }
+}
+
+// Puts the entries of the labels of the words of all symbols in the place of what stood in the table.
+pub(crate) fn write_word_entries(settings: &Settings, table: &mut Vec<u16>)
+    requires spare { 6 * payload settings.now.mode ≤ vec_capacity table.old }
+    ensures entries { AreWordEntries settings.now table.new.items }
+    ensures capacity { vec_capacity table.new ≡ vec_capacity table.old }
+{
+    table.clear();
+    for word in 0..settings.mode.payload() {
+        push_word(settings, word, table);
     }
 }
 

@@ -69,7 +69,7 @@ fn put_four(number: u64, to: &mut [u8; 6048], at: usize)
 }
 
 // The bits in bytes of eight.
-fn packed(bits: &[bool], number: usize) -> [u8; 6048]
+pub(crate) fn packed(bits: &[bool], number: usize) -> [u8; 6048]
     requires number { number ≤ 6048 }
     requires fours { number % 4 ≡ 0 }
     requires room { 8 * number ≤ length bits.now }
@@ -138,7 +138,7 @@ fn turn_block(bytes: &[u8; 6048], block: usize, words: &mut [u8; 6048])
 }
 
 // The words of some blocks.
-fn turned(bytes: &[u8; 6048], blocks: usize) -> [u8; 6048]
+pub(crate) fn turned(bytes: &[u8; 6048], blocks: usize) -> [u8; 6048]
     requires { blocks ≤ 48 }
     ensures { AreTurned bytes.now (126 * blocks) result }
 {

@@ -1,7 +1,7 @@
 // Labels out of the parities of all steps.
 ghost use Rattle.std.specs.Prelude.{◌≡◌, ◌+◌, ◌*◌, ◌<◌, ◌≤◌, ◌^◌, ℕ, length, slice_index, vec_capacity, vec_len};
 ghost use Rattle.spec_words.specs.Bits.{is_set};
-ghost use Rattle.inner_chain.specs.Tables.{AppendsGathered, AreWithin, IsGathered, read_bit};
+ghost use Rattle.inner_chain.specs.Tables.{AppendsGathered, AreGathered, AreWithin, IsGathered, read_bit};
 
 // A label moved up by one place, and a bit in the place that becomes free.
 fn with_bit(label: u8, bit: bool) -> u8
@@ -57,5 +57,19 @@ pub(crate) fn push_labels<const COUNT: u8>(
 {
     for place in 0..number {
         to.push_reserved(gathered::<COUNT>(bits, entries, place * COUNT as usize));
+    }
+}
+
+// Writes as many labels as the slice has places, each of `COUNT` entries.
+pub(crate) fn write_labels<const COUNT: u8>(bits: &[bool], entries: &[u16], to: &mut [u8])
+    requires count { COUNT ≤ 6 }
+    requires number { length to.old ≤ 65536 }
+    requires room { length to.old * COUNT ≤ length entries.now }
+    requires entries { AreWithin entries.now (length bits.now) }
+    ensures long { length to.new ≡ length to.old }
+    ensures labels { AreGathered bits.now entries.now (length to.old) COUNT to.new }
+{
+    for place in 0..to.len() {
+        to[place] = gathered::<COUNT>(bits, entries, place * COUNT as usize);
     }
 }

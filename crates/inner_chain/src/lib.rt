@@ -20,6 +20,7 @@ mod sent_parity;
 mod symbol;
 mod twos;
 mod tx;
+mod word_labels;
 
 pub use rx::InnerRx;
 pub use tx::InnerTx;

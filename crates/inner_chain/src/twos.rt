@@ -63,7 +63,7 @@ fn turn_block<const N: usize>(parities: &[bool], block: usize, words: &mut [u8; 
 }
 
 // The words of some blocks.
-fn turned_words<const N: usize>(parities: &[bool], blocks: usize) -> [u8; N]
+pub(crate) fn turned_words<const N: usize>(parities: &[bool], blocks: usize) -> [u8; N]
     requires within { 126 * blocks ≤ N }
     requires few { N ≤ 6048 }
     requires room { 252 * blocks ≤ length parities.now }

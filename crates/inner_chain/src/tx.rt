@@ -6,13 +6,15 @@ ghost use Rattle.mode_set.specs.declared.modes.Stream.{Stream as AnyStream};
 ghost use Rattle.mode_set.specs.declared.modes.Stream.TheVariants.{Hp, Lp};
 ghost use Rattle.puncture.specs.SentBits.{bits_from};
 ghost use Rattle.conv_code.specs.Coded.{zeros};
-ghost use Rattle.inner_chain.specs.Labels.{AppendsLabels, IsBefore, Paths, behind, coded_bits, from_step, input_bits};
+ghost use Rattle.inner_chain.specs.Labels.{AppendsLabels, AreWordLabels, IsBefore, IsFed, Paths, behind, coded_bits};
+ghost use Rattle.inner_chain.specs.Labels.{from_step, input_bits};
 ghost use Rattle.inner_chain.specs.Labels.{register_of};
 
 use crate::entries::label_table;
 use crate::label_tables::{table_of, turn_label_tables};
 use crate::parities::rows;
 use crate::symbol::{code, push_symbol};
+use crate::word_labels::write_word_labels;
 use bit_pack::WaitBuf;
 use conv_code::Encoder;
 use mode_set::{Carriers, Entry, Settings, Stream};
@@ -36,6 +38,9 @@ pub struct InnerTx<M: Carriers> {
     latest: Entry,
     even: Vec<u16>,
     odd: Vec<u16>,
+    // The parameters for which the table of words was written last, and that table.
+    word_latest: Option<Entry>,
+    words: Vec<u16>,
     rows: Vec<[bool; 8]>,
     parities: Vec<bool>,
 }
@@ -50,7 +55,7 @@ impl<M: Carriers> Model for InnerTx<M> {
     ghost view = { λ t. record { settings = t.settings; hp = t.hp; lp = t.lp } };
 
     ghost invariant = { λ t. IsTx M.MODE t.settings t.latest t.hp t.lp t.even.items t.odd.items (vec_capacity t.even)
-        (vec_capacity t.odd) t.rows.items t.parities.items };
+        (vec_capacity t.odd) t.word_latest t.words.items (vec_capacity t.words) t.rows.items t.parities.items };
 }
 
 impl<M: Carriers> InnerTx<M> {
@@ -67,6 +72,7 @@ impl<M: Carriers> InnerTx<M> {
         let first = settings.with_entry(&latest);
         let even = label_table(alloc, &first, false, &permutation)?;
         let odd = label_table(alloc, &first, true, &permutation)?;
+        let words = Vec::with_capacity(alloc, 6 * settings.mode.payload() as usize)?;
         let rows = rows(alloc)?;
         let parities = vec![in alloc; false; 2 * (21 * settings.mode.payload() as usize / 4)]?;
         Ok(InnerTx {
@@ -77,6 +83,8 @@ impl<M: Carriers> InnerTx<M> {
             latest,
             even,
             odd,
+            word_latest: None,
+            words,
             rows,
             parities,
         })
@@ -155,6 +163,48 @@ impl<M: Carriers> InnerTx<M> {
             entries,
             &self.parities,
             &self.permutation,
+            to,
+        );
+    }
+
+    /// Takes the bits of the next symbol of each stream, and writes the labels of the symbol's words over the slice,
+    /// before the symbol interleaver: those that [`labels`](InnerTx::labels) appends, in the order of the words.
+    /// `entry` has the symbol's parameters. It is the faster of the two.
+    pub fn word_labels(&mut self, entry: &Entry, hp: &mut WaitBuf, lp: &mut WaitBuf, to: &mut [u8])
+        requires hp { need (with_entry self.old.settings entry.now) Hp ≤ length hp.old }
+        requires lp { need (with_entry self.old.settings entry.now) Lp ≤ length lp.old }
+        requires long { length to.old ≡ payload self.old.settings.mode }
+
+        ensures settings { self.new.settings ≡ self.old.settings }
+        ensures hp { hp.new ≡ drop (need (with_entry self.old.settings entry.now) Hp) hp.old }
+        ensures lp { lp.new ≡ drop (need (with_entry self.old.settings entry.now) Lp) lp.old }
+
+        // For any paths whose input bits wait, the labels are those of their first coded bits, and
+        // afterwards it is before what follows of them.
+        ensures labels { (paths : Paths) → IsFed self.old (with_entry self.old.settings entry.now) paths hp.old lp.old
+            → AreWordLabels (with_entry self.old.settings entry.now)
+            (coded_bits (with_entry self.old.settings entry.now) paths) to.new }
+        ensures next { (paths : Paths) → IsFed self.old (with_entry self.old.settings entry.now) paths hp.old lp.old
+            → IsBefore self.new (behind (with_entry self.old.settings entry.now) paths) }
+    {
+        let rows = &self.rows;
+        let present = self.settings.with_entry(entry);
+        code(
+            &present,
+            rows,
+            hp,
+            &mut self.hp,
+            lp,
+            &mut self.lp,
+            &mut self.parities,
+        );
+        write_word_labels(
+            &present,
+            &self.settings,
+            entry,
+            &self.parities,
+            &mut self.word_latest,
+            &mut self.words,
             to,
         );
     }

@@ -1,14 +1,17 @@
 -- The labels of a symbol, for any streams.
-use Rattle.std.proofs.Common.{◌≡◌, ℕ, ◌+◌, ◌^◌, ◌<◌, ◌≤◌, Bool, false, List, [], ◌++◌, length, take, get_or, sym, ap, ◌∙◌, subst, arith}
+use Rattle.std.proofs.Common.{◌≡◌, ℕ, ◌+◌, ◌^◌, ◌<◌, ◌≤◌, Bool, true, false, List, [], ◌∷◌, ◌++◌, length, take, get_or, slice_index, refl, sym, ap, ◌∙◌, subst, arith}
 use Rattle.std.proofs.lemmas.List.{get_or_append_left, get_or-append-add, get_or-take, length-take-le}
 use Rattle.spec_words.specs.Bits.{bit, is_set}
 use Rattle.mode_set.specs.StreamTable.{need, payload, label_bits}
+use Rattle.mode_set.specs.declared.modes.Mode.{Mode}
 use Rattle.mode_set.specs.declared.modes.Stream.{Stream}
 use Rattle.mode_set.specs.declared.modes.Stream.TheVariants.{Hp, Lp}
 use Rattle.mode_set.specs.declared.settings.Settings.{Settings}
 use Rattle.puncture.specs.SentBits.{bits_from}
-use Rattle.inner_chain.specs.Labels.{Paths, TxState, IsBefore, AppendsLabels, label_bit}
+use Rattle.symbol_interleave.specs.Carried.{h, carried, HIsAPermutation, PlacesAndWordsAgree}
+use Rattle.inner_chain.specs.Labels.{Paths, TxState, IsBefore, AppendsLabels, AreWordLabels, label_bit, word_bit}
 use Rattle.frame_build.specs.Symbol.{Agree, bits_of}
+use Rattle.frame_build.specs.Words.{carried_bits}
 use Rattle.modulator.proofs.Runs.{run_is}
 
 -- a path that begins with the register and the pending bits
@@ -50,3 +53,32 @@ labels_small s odd bits old new a e q l = subst (λ (z : List ℕ). get_or z q 0
 
 pub labels_agree : (s : Settings) (odd : Bool) (bits : Stream → ℕ → Bool) (old new : List ℕ) → AppendsLabels s odd bits old new → old ≡ [] → Agree s (bits_of new) (label_bit s odd bits)
 labels_agree s odd bits old new a e q k l m = ap (λ (z : List ℕ). is_set (get_or z q 0) k) (only_labels s odd bits old new a e) ∙ a.are.bit q k l m
+
+-- the word on a payload carrier
+word_within : HIsAPermutation → PlacesAndWordsAgree → (m : Mode) (odd : Bool) (q : ℕ) → q < payload m → carried m odd q < payload m
+word_within perm agree m true q l = (perm m).below q l
+word_within perm agree m false q l =
+    let found = (perm m).each q l in
+    let back : carried m false (slice_index (h m) found.0) ≡ found.0 = (agree m false found.0 found.1).1 in
+    let here : carried m false q ≡ found.0 = ap (carried m false) (sym found.2) ∙ back in
+    omega (arith, here, found.1)
+
+label_is : (s : Settings) (odd : Bool) (bits : Stream → ℕ → Bool) (q e : ℕ) → word_bit s bits (carried s.mode odd q) e ≡ label_bit s odd bits q e
+unfolding word_bit label_bit
+label_is s odd bits q e = refl
+
+-- words' labels on the carriers that carry them
+pub words_agree : HIsAPermutation → PlacesAndWordsAgree → (s : Settings) (m : Mode) (odd : Bool) (bits : Stream → ℕ → Bool) (words : List ℕ) → s.mode ≡ m → AreWordLabels s bits words → Agree s (carried_bits m odd words) (label_bit s odd bits)
+words_agree perm agree s m odd bits words em a q e l le =
+    ap (λ (z : Mode). carried_bits z odd words q e) (sym em) ∙ a.bit (carried s.mode odd q) e (word_within perm agree s.mode odd q l) le ∙ label_is s odd bits q e
+
+pub words_small : (s : Settings) (m : Mode) (bits : Stream → ℕ → Bool) (words : List ℕ) → s.mode ≡ m → AreWordLabels s bits words → (w : ℕ) → w < payload m → get_or words w 0 < 2 ^ label_bits s.shape
+words_small s m bits words em a w l = a.small w (omega (arith, l, ap payload em))
+
+-- a list that was written over as a whole
+take_front : {A : Type 0} (xs ys : List A) → take (length xs) (xs ++ ys) ≡ xs
+take_front [] ys = refl
+take_front (x ∷ xs) ys = ap (λ zs. x ∷ zs) (take_front xs ys)
+
+pub written_over : {A : Type 0} (n : ℕ) (xs ys : List A) → n ≡ length xs → take n (xs ++ ys) ≡ xs
+written_over n xs ys e = ap (λ (z : ℕ). take z (xs ++ ys)) e ∙ take_front xs ys

@@ -20,7 +20,7 @@ use Rattle.symbol_parameters.specs.Spans.{settings_at, steps_before}
 use Rattle.symbol_parameters.specs.Laws.{ModeStays, NoSteps, StepsOfOneMore}
 use Rattle.inner_chain.specs.Labels.{Paths, TxState, IsBefore, from_step, behind, input_bits, coded_bits, label_bit}
 use Rattle.frame_build.specs.Announcing.{announcing_bytes}
-use Rattle.frame_build.specs.Symbol.{Agree, bits_of}
+use Rattle.frame_build.specs.Symbol.{Agree}
 use Rattle.frame_build.specs.State.{NextSymbol}
 use Rattle.transmission.specs.Transmission.{Inputs, announced_at, by_stream, paths_of, paths_at, tx_label, tx_symbol}
 use Rattle.transmission.specs.SuperFrames.{packets_for}
@@ -386,27 +386,27 @@ symbol_made more m s z made p next room inner hp lp is kept none same eh el goes
     }))
 
 -- the labels from the inner coder with the settings of the symbol
-abbrev pub Labels : Settings → ℕ → Parts → List ℕ → Type 0
+abbrev pub Labels : Settings → ℕ → Parts → (ℕ → ℕ → Bool) → Type 0
 Labels z made p labels = (paths : Paths) → IsBefore p.inner paths → take (need z Hp) p.hp_waiting ≡ input_bits z paths Hp → take (need z Lp) p.lp_waiting ≡ input_bits z paths Lp
-    → Agree z (bits_of labels) (label_bit z (is_odd made) (coded_bits z paths))
+    → Agree z labels (label_bit z (is_odd made) (coded_bits z paths))
 
 pub record AreCells (s : Settings) (made : ℕ) : Type 0 where
   pub repeats : (a b : Settings) (l : ℕ → ℕ → Bool) → announcing_bytes a b made l ≡ announcing_bytes a b (made % 272) l
   pub follow : (a b : Settings) (l k : ℕ → ℕ → Bool) → a.mode ≡ s.mode → Agree a l k → announcing_bytes a b made l ≡ announcing_bytes a b made k
 
 -- the bytes written, with the settings of the symbol and of the next super-frame
-pub bytes_made : ModeStays → StepsOfOneMore → (m : Mode) (s z now coming : Settings) (made : ℕ) (p : Parts) (next : NextSymbol) (room : ℕ) (labels : List ℕ) (inputs : Inputs)
+pub bytes_made : ModeStays → StepsOfOneMore → (m : Mode) (s z now coming : Settings) (made : ℕ) (p : Parts) (next : NextSymbol) (room : ℕ) (labels : ℕ → ℕ → Bool) (inputs : Inputs)
     → z ≡ settings_at s made → now ≡ settings_at s made → coming ≡ announced_at s made → IsKept m s made p next room → wanted (transmitter s made p) ≡ None
-    → AreCells s made → Labels z made p labels → HasPut (transmitter s made p) inputs → announcing_bytes now coming next.number (bits_of labels) ≡ tx_symbol s inputs made
+    → AreCells s made → Labels z made p labels → HasPut (transmitter s made p) inputs → announcing_bytes now coming next.number labels ≡ tx_symbol s inputs made
 bytes_made stay more m s z now coming made p next room labels inputs ez en ec kept none cells agrees h =
-    let agree : Agree (settings_at s made) (bits_of labels) (label_bit (settings_at s made) (is_odd made) (coded_bits (settings_at s made) (paths_at s inputs made))) =
-    subst (λ (y : Settings). Agree y (bits_of labels) (label_bit y (is_odd made) (coded_bits y (paths_at s inputs made)))) ez
+    let agree : Agree (settings_at s made) labels (label_bit (settings_at s made) (is_odd made) (coded_bits (settings_at s made) (paths_at s inputs made))) =
+    subst (λ (y : Settings). Agree y labels (label_bit y (is_odd made) (coded_bits y (paths_at s inputs made)))) ez
     (agrees (paths_at s inputs made) h.inner (hp_input more m s z made p next room inputs ez kept none h) (lp_input more m s z made p next room inputs ez kept none h)) in
-    ap (λ (y : Settings). announcing_bytes y coming next.number (bits_of labels)) en
-    ∙ ap (λ (y : Settings). announcing_bytes (settings_at s made) y next.number (bits_of labels)) ec
-    ∙ ap (λ (n : ℕ). announcing_bytes (settings_at s made) (announced_at s made) n (bits_of labels)) kept.symbol
-    ∙ sym (cells.repeats (settings_at s made) (announced_at s made) (bits_of labels))
-    ∙ cells.follow (settings_at s made) (announced_at s made) (bits_of labels) (label_bit (settings_at s made) (is_odd made) (coded_bits (settings_at s made) (paths_at s inputs made))) (stay s (made / 272)) agree
+    ap (λ (y : Settings). announcing_bytes y coming next.number labels) en
+    ∙ ap (λ (y : Settings). announcing_bytes (settings_at s made) y next.number labels) ec
+    ∙ ap (λ (n : ℕ). announcing_bytes (settings_at s made) (announced_at s made) n labels) kept.symbol
+    ∙ sym (cells.repeats (settings_at s made) (announced_at s made) labels)
+    ∙ cells.follow (settings_at s made) (announced_at s made) labels (label_bit (settings_at s made) (is_odd made) (coded_bits (settings_at s made) (paths_at s inputs made))) (stay s (made / 272)) agree
     ∙ sym (tx_symbol_is s inputs made)
 
 -- the invariant after a symbol

@@ -7,6 +7,7 @@
 pub mod laws;
 mod modulator;
 mod next_labels;
+mod plain;
 mod stream;
 mod super_frames;
 mod want;

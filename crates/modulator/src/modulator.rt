@@ -1,6 +1,5 @@
 // From packets to symbols.
-ghost use Rattle.std.specs.Prelude.{◌≡◌, ◌≢◌, ◌+◌, ◌*◌, ◌^◌, ◌<◌, ◌≤◌, ◌++◌, Some, None, IfOk, length, vec_capacity};
-ghost use Rattle.std.specs.Prelude.{vec_len};
+ghost use Rattle.std.specs.Prelude.{◌≡◌, ◌≢◌, ◌+◌, ◌*◌, ◌^◌, ◌<◌, ◌≤◌, Some, None, IfOk, length, vec_capacity};
 ghost use Rattle.mode_set.specs.StreamTable.{need};
 ghost use Rattle.mode_set.specs.declared.modes.Stream.TheVariants as streams;
 ghost use Rattle.transmission.specs.Transmission.{Inputs, by_stream, tx_symbol};
@@ -10,12 +9,12 @@ ghost use Rattle.modulator.specs.State.{HasOneMore, HasPut, IsNext, StandsFor, n
 ghost use Rattle.modulator.specs.Wants.{stream_of};
 
 use crate::laws::other_streams;
-use crate::next_labels::next_labels;
+use crate::next_labels::{WordLabels, next_words};
 use crate::stream::StreamTx;
 use crate::super_frames::super_frames_for;
 use crate::want::Want;
 use bit_pack::WaitBuf;
-use frame_build::{SymbolOut, symbols_follow_labels, symbols_repeat};
+use frame_build::{SymbolOut, WordCarriers, symbols_follow_labels, symbols_repeat};
 use inner_chain::InnerTx;
 use mode_set::{Carriers, Settings, Stream};
 use std::alloc::{AllocError, Global};
@@ -59,14 +58,16 @@ fn settings_of_next(settings: &Settings, made: u64) -> Settings
 /// (`HasPut`). Only `new` allocates memory.
 #[derive(Drop)]
 pub struct Modulator<M: Carriers> {
-    settings: Settings,
-    hp: StreamTx,
-    lp: StreamTx,
-    inner: InnerTx<M>,
-    out: SymbolOut<M>,
-    // The labels of the last symbol, with space for any.
-    labels: Vec<u8>,
-    made: u64,
+    pub(crate) settings: Settings,
+    pub(crate) hp: StreamTx,
+    pub(crate) lp: StreamTx,
+    pub(crate) inner: InnerTx<M>,
+    pub(crate) out: SymbolOut<M>,
+    // The labels of the last symbol in the order of its carriers, with space for any, and those in the order of words.
+    pub(crate) labels: Vec<u8>,
+    words: WordLabels<M>,
+    carriers: WordCarriers<M>,
+    pub(crate) made: u64,
 }
 
 impl<M: Carriers> Model for Modulator<M> {
@@ -114,6 +115,8 @@ impl<M: Carriers> Modulator<M> {
             inner: InnerTx::new(alloc, settings)?,
             out: SymbolOut::new(settings),
             labels: Vec::with_capacity(alloc, M::NMAX as usize)?,
+            words: WordLabels::new(alloc)?,
+            carriers: WordCarriers::new(alloc)?,
             made: 0,
         })
     }
@@ -149,44 +152,6 @@ impl<M: Carriers> Modulator<M> {
         }
     }
 
-    /// Makes the next symbol of the transmission and appends its bytes, five for each carrier: its cell and weight 15.
-    /// They are those after the header of a cell file. Call it if `wants` returns `Symbol` and fewer than 2^32 symbols
-    /// were made; the spare capacity of `to` must suffice for the bytes.
-    pub fn symbol(&mut self, to: &mut Vec<u8>)
-        requires wanted { wanted self.old ≡ None }
-        requires few { self.old.made < 2 ^ 32 }
-        requires spare { vec_len to.old + 5 * M.K ≤ vec_capacity to.old }
-        ensures settings { self.new.settings ≡ self.old.settings }
-        ensures made { self.new.made ≡ self.old.made + 1 }
-        ensures hp { self.new.hp ≡ self.old.hp }
-        ensures lp { self.new.lp ≡ self.old.lp }
-        ensures put { (inputs : Inputs) → HasPut self.old inputs → HasPut self.new inputs }
-        ensures stands { (packets : Inputs) → StandsFor self.old packets → StandsFor self.new packets }
-
-        // The bytes are those of the next symbol in every transmission that begins with the packets put.
-        ensures bytes { (inputs : Inputs) → HasPut self.old inputs → to.new.items ≡ to.old.items
-            ++ tx_symbol self.old.settings inputs self.old.made }
-        ensures len { vec_len to.new ≡ vec_len to.old + 5 * M.K }
-        ensures capacity { vec_capacity to.new ≡ vec_capacity to.old }
-    {
-        steps();
-        super_frame_settings();
-        symbols_repeat(self.made);
-        symbols_follow_labels(self.settings.mode, self.made);
-        let now = parameters_of_symbol(&self.settings, self.made);
-        let next = parameters_of_symbol(&self.settings, self.made + 272);
-        next_labels(
-            &now,
-            self.made % 2 == 1,
-            &mut self.inner,
-            &mut self.hp.waiting,
-            &mut self.lp.waiting,
-            &mut self.labels,
-        );
-        self.out.write(&now, &next, &self.labels, to);
-        self.made += 1;
-    }
-
     /// Makes the next symbol, and writes its bytes over the slice, which has five for each carrier: the bytes that
     /// [`symbol`](Modulator::symbol) appends, on the same conditions except for the capacity. It is the faster of the
     /// two.
@@ -212,15 +177,15 @@ impl<M: Carriers> Modulator<M> {
         symbols_follow_labels(self.settings.mode, made);
         let now = parameters_of_symbol(&self.settings, made);
         let next = parameters_of_symbol(&self.settings, made + 272);
-        next_labels(
+        next_words(
             &now,
-            made % 2 == 1,
             &mut self.inner,
             &mut self.hp.waiting,
             &mut self.lp.waiting,
-            &mut self.labels,
+            &mut self.words,
         );
-        self.out.write_into(&now, &next, &self.labels, to);
+        self.out
+            .write_words(&now, &next, &self.words.labels, &mut self.carriers, to);
         self.made = made + 1;
     }
 

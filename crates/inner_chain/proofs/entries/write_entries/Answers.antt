@@ -11,6 +11,6 @@ pub loop-q-preserved : goal.loop-q-preserved
 loop-q-preserved g c =
     let word : c.source.result ≡ carried c.args.settings.now.mode c.args.odd c.loop-q.q = subst (λ (m : Mode). c.source.result ≡ carried m c.args.odd c.loop-q.q) (sym c.requires.mode) c.source.ensures.carried in
     record {
-      entries = words_more c.args.settings.now c.args.odd c.loop-q.q _ _ _ c.loop-q.invariant.entries c.push_word.ensures.entries word;
+      entries = words_more c.args.settings.now (carried c.args.settings.now.mode c.args.odd) c.loop-q.q _ _ _ c.loop-q.invariant.entries c.push_word.ensures.entries word;
       capacity = c.push_word.ensures.capacity ∙ c.loop-q.invariant.capacity;
     }

@@ -1,16 +1,17 @@
 use Rattle.std.proofs.Common.{ap, sym}
 use Rattle.mode_set.specs.StreamTable.{label_bits}
+use Rattle.symbol_interleave.specs.Carried.{carried}
 use Rattle.inner_chain.proofs.Symbols.{entries_within, labels_are}
 use Rattle.inner_chain.proofs.symbol.push_gathered.Goals as goal
 
 pub push_labels-requires-clause-entries : goal.push_labels-requires-clause-entries
-push_labels-requires-clause-entries c = entries_within c.args.settings.now c.args.odd _ _ c.requires.entries c.requires.room
+push_labels-requires-clause-entries c = entries_within c.args.settings.now (carried c.args.settings.now.mode c.args.odd) _ _ c.requires.entries c.requires.room
 
 pub push_labels-requires-in-Qam16-clause-entries : goal.push_labels-requires-in-Qam16-clause-entries
-push_labels-requires-in-Qam16-clause-entries c = entries_within c.args.settings.now c.args.odd _ _ c.requires.entries c.requires.room
+push_labels-requires-in-Qam16-clause-entries c = entries_within c.args.settings.now (carried c.args.settings.now.mode c.args.odd) _ _ c.requires.entries c.requires.room
 
 pub push_labels-requires-in-Qam64-clause-entries : goal.push_labels-requires-in-Qam64-clause-entries
-push_labels-requires-in-Qam64-clause-entries c = entries_within c.args.settings.now c.args.odd _ _ c.requires.entries c.requires.room
+push_labels-requires-in-Qam64-clause-entries c = entries_within c.args.settings.now (carried c.args.settings.now.mode c.args.odd) _ _ c.requires.entries c.requires.room
 
 pub returns-in-Qpsk-clause-labels : goal.returns-in-Qpsk-clause-labels
 returns-in-Qpsk-clause-labels c = λ paths all.

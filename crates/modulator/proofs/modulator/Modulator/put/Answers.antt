@@ -58,3 +58,10 @@ returns-in-Symbol-clause-stands g c =
     let both = subst (λ (y : Settings). (need y Hp ≤ length i.hp.waiting) × (need y Lp ≤ length i.lp.waiting)) c.settings_of_next-settings.ensures (c.in-Symbol.ensures.symbol refl) in
     let none = want_none c.steps.ensures.next g.M.Carriers.MODE i.settings i.made (parts_of i.hp.outer i.lp.outer i.hp.waiting i.lp.waiting i.inner) i.out (vec_capacity i.labels) c.self.invariant both.0 both.1 in
     absurd (c.requires.wanted (subst (λ (t : Transmitter). wanted t ≡ None) c.self.view_is none))
+
+pub returns-in-Symbol-clause-counts : goal.returns-in-Symbol-clause-counts
+returns-in-Symbol-clause-counts g c =
+    let i = c.self.inside in
+    let both = subst (λ (y : Settings). (need y Hp ≤ length i.hp.waiting) × (need y Lp ≤ length i.lp.waiting)) c.settings_of_next-settings.ensures (c.in-Symbol.ensures.symbol refl) in
+    let none = want_none c.steps.ensures.next g.M.Carriers.MODE i.settings i.made (parts_of i.hp.outer i.lp.outer i.hp.waiting i.lp.waiting i.inner) i.out (vec_capacity i.labels) c.self.invariant both.0 both.1 in
+    absurd (c.requires.wanted (subst (λ (t : Transmitter). wanted t ≡ None) c.self.view_is none))

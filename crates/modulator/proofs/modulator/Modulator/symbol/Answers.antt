@@ -47,6 +47,24 @@ invariant_of-self g c =
     (vec_capacity i.labels) (vec_capacity c.next_labels.new.labels) c.next_labels.new.inner c.next_labels.new.hp c.next_labels.new.lp (present i.settings i.inner.settings i.made c.parameters_of_symbol-now.result c.self.invariant.inner c.parameters_of_symbol-now.ensures.settings)
     c.self.invariant none few c.next_labels.ensures.settings c.next_labels.ensures.hp_register c.next_labels.ensures.lp_register c.write.ensures.settings c.write.ensures.number c.next_labels.ensures.capacity c.next_labels.ensures.hp c.next_labels.ensures.lp
 
+pub returns-clause-hp : goal.returns-clause-hp
+returns-clause-hp g c =
+    let i = c.self.inside in
+    let none = subst (λ (t : Transmitter). wanted t ≡ None) (sym c.self.view_is) c.requires.wanted in
+    let after = symbol_made c.steps.ensures.next g.M.Carriers.MODE i.settings (with_entry i.inner.settings c.parameters_of_symbol-now.result) i.made (parts_of i.hp.outer i.lp.outer i.hp.waiting i.lp.waiting i.inner) i.out (vec_capacity i.labels)
+    c.next_labels.new.inner c.next_labels.new.hp c.next_labels.new.lp (present i.settings i.inner.settings i.made c.parameters_of_symbol-now.result c.self.invariant.inner c.parameters_of_symbol-now.ensures.settings) c.self.invariant none
+    c.next_labels.ensures.settings c.next_labels.ensures.hp c.next_labels.ensures.lp c.next_labels.ensures.next in
+    after.hp ∙ ap (λ (t : Transmitter). t.hp) c.self.view_is
+
+pub returns-clause-lp : goal.returns-clause-lp
+returns-clause-lp g c =
+    let i = c.self.inside in
+    let none = subst (λ (t : Transmitter). wanted t ≡ None) (sym c.self.view_is) c.requires.wanted in
+    let after = symbol_made c.steps.ensures.next g.M.Carriers.MODE i.settings (with_entry i.inner.settings c.parameters_of_symbol-now.result) i.made (parts_of i.hp.outer i.lp.outer i.hp.waiting i.lp.waiting i.inner) i.out (vec_capacity i.labels)
+    c.next_labels.new.inner c.next_labels.new.hp c.next_labels.new.lp (present i.settings i.inner.settings i.made c.parameters_of_symbol-now.result c.self.invariant.inner c.parameters_of_symbol-now.ensures.settings) c.self.invariant none
+    c.next_labels.ensures.settings c.next_labels.ensures.hp c.next_labels.ensures.lp c.next_labels.ensures.next in
+    after.lp ∙ ap (λ (t : Transmitter). t.lp) c.self.view_is
+
 pub returns-clause-put : goal.returns-clause-put
 returns-clause-put g c = λ inputs h.
     let i = c.self.inside in
@@ -72,7 +90,7 @@ returns-clause-bytes g c = λ inputs h.
     let now = with_entry i.out.settings c.parameters_of_symbol-now.result in
     let next = with_entry i.out.settings c.parameters_of_symbol-next.result in
     let made = bytes_made c.settings.ensures.mode c.steps.ensures.next g.M.Carriers.MODE i.settings (with_entry i.inner.settings c.parameters_of_symbol-now.result) now next i.made
-    (parts_of i.hp.outer i.lp.outer i.hp.waiting i.lp.waiting i.inner) i.out (vec_capacity i.labels) c.next_labels.new.labels.items inputs
+    (parts_of i.hp.outer i.lp.outer i.hp.waiting i.lp.waiting i.inner) i.out (vec_capacity i.labels) (bits_of c.next_labels.new.labels.items) inputs
     (present i.settings i.inner.settings i.made c.parameters_of_symbol-now.result c.self.invariant.inner c.parameters_of_symbol-now.ensures.settings) (present i.settings i.out.settings i.made c.parameters_of_symbol-now.result c.self.invariant.out c.parameters_of_symbol-now.ensures.settings)
     (coming i.settings i.out.settings i.made (i.made + 272) c.parameters_of_symbol-next.result c.self.invariant.out refl c.parameters_of_symbol-next.ensures.settings)
     c.self.invariant none (record { repeats = c.symbols_repeat.ensures; follow = c.symbols_follow_labels.ensures }) c.next_labels.ensures.labels (subst (λ (t : Transmitter). HasPut t inputs) (sym c.self.view_is) h) in

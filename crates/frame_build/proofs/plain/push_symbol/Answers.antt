@@ -7,7 +7,7 @@ use Rattle.qam_map.specs.Points.{map_cell}
 use Rattle.frame_build.specs.Symbol.{bits_of, sent_bytes}
 use Rattle.frame_build.specs.State.{bytes_sent, labels_of}
 use Rattle.frame_build.proofs.Cells.{carrier_bytes, carrier_sent, no_carriers, one_carrier, whole_symbol, no_labels, labels_more, label_below, few_labels, few_carriers}
-use Rattle.frame_build.proofs.symbol_out.push_symbol.Goals as goal
+use Rattle.frame_build.proofs.plain.push_symbol.Goals as goal
 
 pub loop-k-init : goal.loop-k-init
 loop-k-init g c =

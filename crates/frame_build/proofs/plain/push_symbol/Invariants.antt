@@ -4,7 +4,7 @@ use Rattle.std.specs.Prelude.{vec_len, vec_capacity}
 use Rattle.frame_build.specs.Symbol.{bits_of}
 use Rattle.frame_build.specs.State.{labels_before}
 use Rattle.frame_build.proofs.Cells.{carrier_bytes}
-use Rattle.frame_build.proofs.symbol_out.push_symbol.Given as goal
+use Rattle.frame_build.proofs.plain.push_symbol.Given as goal
 
 -- so much was appended, and the room stays
 pub record Appended (old new more : List ℕ) (len capacity old_len old_capacity k : ℕ) (next before : ℕ) : Type 0 where
