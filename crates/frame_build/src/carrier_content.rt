@@ -19,7 +19,7 @@ pub(crate) enum CarrierContent {
 }
 
 impl CarrierContent {
-    // The labels that were sent behind this carrier, of which `next` were before it.
+    // The number of labels sent after this carrier, if `next` were sent before it.
     pub(crate) fn after(self, next: usize) -> usize
         requires { next < 65536 }
         ensures { result ≡ next + labels_of self }
@@ -33,7 +33,7 @@ impl CarrierContent {
         }
     }
 
-    // Where its cell stands among those of all carriers, behind the cells of 64 labels.
+    // Where its cell stands among those of all carriers, after the cells of 64 labels.
     pub(crate) fn place(self, turned: bool) -> usize
         requires { self ≢ CarrierContent.Label }
         ensures { result ≡ place_of self turned }

@@ -158,7 +158,7 @@ impl CellTable {
         *self = CellTable::new(shape, hierarchy);
     }
 
-    // The bytes of a carrier that sends this, behind those that sent the first `next` labels.
+    // The bytes of a carrier that sends this, after those that sent the first `next` labels.
     pub(crate) fn bytes(
         &self,
         source: CarrierContent,

@@ -57,7 +57,7 @@ fn put_symbol<M: Carriers>(
 /// TPS cells on the others (EN 300 744, 4.4 to 4.6).
 ///
 /// It is seen as its settings and the number of the next symbol in its super-frame of 272 symbols,
-/// which has four frames of 68. Each call is told the parameters of its symbol.
+/// which has four frames of 68. Each call is given the parameters of its symbol.
 #[derive(Drop)]
 pub struct SymbolOut<M: Carriers> {
     pub(crate) settings: Settings,

@@ -62,8 +62,7 @@ fn write_places<M: Carriers>(labels: &[u8], turned: bool, places: &mut [u8])
 }
 
 // Writes symbol `number` of a super-frame over a slice of its length. `indices` are those of its cells, and `turned`
-// says
-// whether its TPS cells are turned.
+// says whether its TPS cells are turned.
 fn put_words<M: Carriers>(
     label_cells: &CellTable,
     number: u16,

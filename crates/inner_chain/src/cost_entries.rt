@@ -22,7 +22,7 @@ pub(crate) const ROW: usize = 256;
 // The words of a run: the offsets of all bit interleavers are multiples of it (EN 300 744, 4.3.4.1).
 pub(crate) const RUN_WORDS: usize = 21;
 
-// The entry of an unsent bit: that behind the costs of the most places.
+// The entry of an unsent bit: the one after the costs of the most places.
 pub(crate) const NO_ENTRY: u16 = 1536;
 
 // The blocks of a symbol.

@@ -126,7 +126,7 @@ fn turned_label(twice: &[u8; 252], j: usize) -> u8
     )
 }
 
-// Makes the words of a block of 126 behind those of the blocks before it.
+// Appends the words of a block of 126 to those of the blocks before it.
 fn turn_block(bytes: &[u8; 6048], block: usize, words: &mut [u8; 6048])
     requires { block < 48 }
     ensures { AreTurned bytes.now (126 * block) words.old → AreTurned bytes.now (126 * (block + 1)) words.new }

@@ -78,7 +78,7 @@ fn write_eight(rows: &[[bool; 8]], inputs: u16, to: &mut [bool], at: usize)
     write_four(&rows[(inputs % 1024) as usize], to, at + 8);
 }
 
-// Writes the parities of the bits of bytes behind those of the `done` steps before.
+// Writes the parities of the bits of bytes after those of the `done` steps before.
 fn encode_bytes(
     rows: &[[bool; 8]],
     bytes: &[u8],
@@ -99,7 +99,7 @@ fn encode_bytes(
     }
 }
 
-// Takes as many bits as a part of bytes has, and writes their parities behind those of the `done` steps before.
+// Takes as many bits as a part of bytes has, and writes their parities after those of the `done` steps before.
 fn encode_part(
     rows: &[[bool; 8]],
     waiting: &mut WaitBuf,
@@ -120,7 +120,7 @@ fn encode_part(
     encode_bytes(rows, part, encoder, to, first, done);
 }
 
-// Takes the bits of `number` bytes, at most 64, and writes their parities behind those of the `done` steps before.
+// Takes the bits of `number` bytes, at most 64, and writes their parities after those of the `done` steps before.
 fn encode_chunk(
     rows: &[[bool; 8]],
     waiting: &mut WaitBuf,
@@ -150,7 +150,7 @@ fn encode_chunk(
     );
 }
 
-// Takes a bit, and writes its parities behind those of the `done` steps before.
+// Takes a bit, and writes its parities after those of the `done` steps before.
 fn encode_bit(
     waiting: &mut WaitBuf,
     encoder: &mut Encoder,
@@ -169,7 +169,7 @@ fn encode_bit(
     to[2 * (first + done) + 1] = y;
 }
 
-// Takes `count` bits, and writes their parities behind those of the `first` steps before.
+// Takes `count` bits, and writes their parities after those of the `first` steps before.
 pub(crate) fn encode(
     rows: &[[bool; 8]],
     waiting: &mut WaitBuf,

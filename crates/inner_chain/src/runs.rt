@@ -11,7 +11,7 @@ use conv_code::CostPair;
 // The runs of a block.
 const RUNS: usize = BLOCK_WORDS / RUN_WORDS;
 
-// Whether an entry follows that of the first word of a run, so many words later.
+// Whether an entry follows that of the first word of a run, that number of words later.
 fn follows(first: u16, words: usize, entry: u16) -> bool
     requires { words < run_words }
     ensures { IsTrue result → Follows first words entry }
@@ -19,7 +19,7 @@ fn follows(first: u16, words: usize, entry: u16) -> bool
     entry as usize == first as usize + words || first == NO_ENTRY && entry == NO_ENTRY
 }
 
-// Whether so many entries from number `at` on follow those from number `first` on.
+// Whether the entries from number `at` on follow those from number `first` on, as many as asked for.
 fn all_follow(entries: &[u16], number: usize, first: usize, words: usize, at: usize) -> bool
     requires words { words < run_words }
     requires first { first + number ≤ length entries.now }

@@ -17,7 +17,7 @@ use std::marker::{Model, PhantomData};
 use symbol_interleave::Permutation;
 
 /// The receiving side of the inner coding: from the cells of a symbol to the costs of the coded bits
-/// of each step of a stream. It is seen as its settings, and each call is told the parameters of its
+/// of each step of a stream. It is seen as its settings, and each call is given the parameters of its
 /// symbol.
 #[derive(Drop)]
 pub struct InnerRx<M: Carriers> {
@@ -61,7 +61,7 @@ impl<M: Carriers> InnerRx<M> {
 
     /// Writes the cost pairs of both streams in symbol `l` of a frame, one for each step in order: those of
     /// HP over the front of `hp`, those of LP over the front of `lp`, none of a stream that does not exist
-    /// there. What stands behind them stays. The pairs are those that `pairs` appends, and the costs of the
+    /// there. What comes after them stays. The pairs are those that `pairs` appends, and the costs of the
     /// cells are found once for both streams. `entry` has the parameters of the symbol.
     ///
     /// `cells` are those of all carriers of the symbol, and `weights` theirs, each at most 15. `steps` tells

@@ -35,7 +35,7 @@ fn label(first: bool, second: bool) -> u8
     first as u8 + 2 * (second as u8)
 }
 
-// Makes the words of half a block of 126, from word `first` on, behind those before it: X of each word's own step, and
+// Appends the words of half a block of 126, from word `first` on, to those before it: X of each word's own step, and
 // Y of one of the block's other half, which begins with word `other`.
 fn turn_half<const N: usize>(parities: &[bool], first: usize, other: usize, words: &mut [u8; N])
     requires within { first + 63 ≤ N }
@@ -50,7 +50,7 @@ fn turn_half<const N: usize>(parities: &[bool], first: usize, other: usize, word
     }
 }
 
-// Makes the words of a block of 126 behind those of the blocks before it.
+// Appends the words of a block of 126 to those of the blocks before it.
 fn turn_block<const N: usize>(parities: &[bool], block: usize, words: &mut [u8; N])
     requires within { 126 * (block + 1) ≤ N }
     requires few { N ≤ 6048 }

@@ -26,7 +26,7 @@ use symbol_interleave::Permutation;
 /// symbols (EN 300 744, 4.3.3, 4.3.4 and 4.3.5).
 ///
 /// It is seen as its settings and the registers of the encoders. It stands for the bits that it has
-/// taken of each stream: each register has the last six of them. Each call is told the parameters of
+/// taken of each stream: each register has the last six of them. Each call is given the parameters of
 /// its symbol.
 #[derive(Drop)]
 pub struct InnerTx<M: Carriers> {

@@ -14,7 +14,7 @@ use mode_set::{Mode, Settings};
 use pilots::carrier;
 use qam_map::Cell;
 
-// The payload carriers of the 2K mode are repeated after so many carriers ..
+// The payload carriers of the 2K mode are repeated after this number of carriers ..
 const PERIOD: usize = 1704;
 
 // .. which have so many of them.

@@ -66,7 +66,7 @@ fn keep(slots: &[WordSlot], received: &mut Vec<[u8; 204]>)
     }
 }
 
-/// Decodes each word, by so many workers.
+/// Decodes each word, by this number of workers.
 fn decode<R: Threads + Sync, G: Gate>(rt: &R, gate: &G, workers: u8, slots: &mut Vec<WordSlot>)
     requires some_worker { 1 ≤ workers }
     requires few_workers { workers ≤ 16 }
@@ -203,7 +203,7 @@ impl MeasuredWords {
         self.outer.put_byte(byte, &mut self.slots);
     }
 
-    /// Decodes the words that wait, by so many workers, and counts them: those below number `limit` in the current
+    /// Decodes the words that wait, by this number of workers, and counts them: those below number `limit` in the current
     /// super-frame, the
     /// others after it.
     pub fn finish<R: Threads + Sync, G: Gate>(&mut self, rt: &R, gate: &G, workers: u8, limit: u64)

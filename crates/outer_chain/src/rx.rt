@@ -98,7 +98,7 @@ fn packet_at(slot: &WordSlot, phase: u8) -> Packet
     packet
 }
 
-// The place of the byte behind the one at this place: one place on, in the word before, which is the
+// The place of the byte after the one at this place: one place on, in the word before, which is the
 // last of the twelve where this is the first.
 fn place_after(place: usize) -> usize
     requires { place < 2448 }
@@ -175,7 +175,7 @@ impl OuterRx {
     }
 
     /// Takes the next interleaved byte. Gives the word that ends with it, still to be decoded, exactly
-    /// where a word behind the eleven of the start-up ends with it. Where the bytes are those of packets
+    /// where a word after the eleven of the start-up ends with it. Where the bytes are those of packets
     /// with bursts, the word's nearest codeword is that of its packet, as without them.
     pub fn take_byte(&mut self, byte: u8) -> Option<WordSlot>
         ensures stands { (bytes : List ℕ) → Receives self.old bytes → Receives self.new (bytes ++ byte ∷ []) }
@@ -207,7 +207,7 @@ impl OuterRx {
     }
 
     /// Takes the next interleaved byte, as [`OuterRx::take_byte`] does, and appends the word that ends
-    /// with it, still to be decoded, exactly where a word behind the eleven of the start-up ends with it.
+    /// with it, still to be decoded, exactly where a word after the eleven of the start-up ends with it.
     /// There is room for one word; the capacity stays. No word is moved where none ends. Where the bytes
     /// are those of packets with bursts, the word's nearest codeword is that of its packet, as without
     /// them.
@@ -246,8 +246,8 @@ impl OuterRx {
     }
 
     /// Takes the next interleaved bytes, as [`OuterRx::put_byte`] does one by one, and appends the word
-    /// that ends with the last of them, still to be decoded, exactly where a word behind the eleven of the
-    /// start-up ends with it. There is at least one byte, none of them is behind the end of the word that
+    /// that ends with the last of them, still to be decoded, exactly where a word after the eleven of the
+    /// start-up ends with it. There is at least one byte, none of them is after the end of the word that
     /// is being received, which `to_end` tells, and there is room for one word; the capacity stays. Where
     /// the bytes are those of packets with bursts, the word's nearest codeword is that of its packet, as
     /// without them.
@@ -280,7 +280,7 @@ impl OuterRx {
 
     /// The packet of a decoded word, meant for each word in order: none exactly where the word has no
     /// phase, and marked where the word has no nearest codeword. A nearest codeword that begins with
-    /// the inverted sync byte has phase 0, another word the phase behind that of the word before. Of
+    /// the inverted sync byte has phase 0, another word the phase after that of the word before. Of
     /// bytes of packets with bursts each word gives its packet, at the phase that it was sent with.
     pub fn finish_word(&mut self, slot: &WordSlot) -> Option<Packet>
         ensures phase { self.new.phase ≡ phase_of (near_of slot.now.outcome slot.now.word) self.old.phase }

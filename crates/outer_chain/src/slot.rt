@@ -11,7 +11,7 @@ use rs204::{Outcome, decode};
 pub struct WordSlot {
     /// The word as it was received, or the nearest codeword once it is decoded.
     pub word: [u8; 204],
-    /// What decoding the word told.
+    /// The outcome of decoding the word.
     pub outcome: Outcome,
 }
 

@@ -30,7 +30,7 @@ pub(crate) struct Bits {
     pub count: u8,
 }
 
-// The bits, and behind them what is sent of a step.
+// The bits, and after them what is sent of a step.
 fn with_sent(bits: Bits, sent: Sent, x: bool, y: bool) -> Bits
     requires room { bits.count ≤ 14 }
     ensures bits { spelled result.count result.word ≡ spelled bits.count bits.word

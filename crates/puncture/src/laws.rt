@@ -33,7 +33,7 @@ pub fn lists_are_paths()
     ensures { ListsArePaths }
 {}
 
-/// The bytes of a stream stand on its path behind six zeros.
+/// The bytes of a stream stand on its path after six zeros.
 pub fn bytes_are_paths()
     ensures { BytesArePaths }
 {}

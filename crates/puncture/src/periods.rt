@@ -10,7 +10,7 @@ use mode_set::Rate;
 
 // For each place of a rate's period and each byte: what is sent of eight steps from there on whose X is the byte and
 // whose
-// Y is zeros, and the other way round; and for each place how many bits these are, and the place behind the steps.
+// Y is zeros, and the other way round; and for each place how many bits these are, and the place after the steps.
 #[derive(Debug, Drop)]
 pub(crate) struct PeriodTable {
     pub words: [(u16, u16); 1792],

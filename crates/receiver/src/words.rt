@@ -19,7 +19,7 @@ use word_workers::{Gate, decode_all};
 /// The most words that one symbol completes.
 pub(crate) const WORDS: usize = 24;
 
-/// Takes bytes of the stream, none of them behind the end of its word, and keeps the word that ends with them, if one
+/// Takes bytes of the stream, none of them after the end of its word, and keeps the word that ends with them, if one
 /// does.
 fn take_run(outer: &mut OuterRx, bytes: &[u8], slots: &mut Vec<WordSlot>)
     requires some { 0 < length bytes.now }
@@ -35,7 +35,7 @@ fn take_run(outer: &mut OuterRx, bytes: &[u8], slots: &mut Vec<WordSlot>)
     outer.put_bytes(bytes, slots);
 }
 
-/// Takes the first bytes of the pending bits, which have as many, and none of them behind the end of its word.
+/// Takes the first bytes of the pending bits, which have as many, and none of them after the end of its word.
 fn pass_run(
     branch: &mut StreamBranch,
     outer: &mut OuterRx,

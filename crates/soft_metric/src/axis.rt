@@ -139,7 +139,7 @@ impl AxisMetric {
 
     /// Writes the costs of the values 0 and 1 at each place of the label of each of many cells, by the
     /// cells' weights: those of `costs_lanes`, each as `weighted` makes it. Those at the first place of
-    /// all cells come first, then those at the next one; what stands behind them stays.
+    /// all cells come first, then those at the next one; what comes after them stays.
     pub fn write_weighted_costs(&self, cells: &[Cell], weights: &[u8], to: &mut [(u16, u16)])
         requires weights_long { length weights.now ≡ length cells.now }
         requires weights { (k : ℕ) → k < length cells.now → slice_index weights.now k ≤ 15 }
