@@ -43,7 +43,7 @@ returns-in_err-next_symbol-clause-modulates g c = λ t₀ files work empty.
     let start : Meaning = g.S.Station.meaning c.write_header.new.station in
     let t = ap (λ (x : Meaning). x.tells) c.in_ok-write_header.ensures.others ∙ t₀ in
     let w = headed c.args.limits.now.packets files before start c.args.inputs (g.T.Transmitter.seen c.args.tx.now) (g.T.Transmitter.stands c.args.tx.now) work empty c.in_ok-write_header.ensures.others c.symbols.ensures.none c.requires.none_made
-        (subst (λ (s : Settings). WritesBytes (header s.mode) before start (Ok tt)) (sym c.requires.same) (c.in_ok-write_header.ensures.written t₀)) in
+    (subst (λ (s : Settings). WritesBytes (header s.mode) before start (Ok tt)) (sym c.requires.same) (c.in_ok-write_header.ensures.written t₀)) in
     let m : Meaning = g.S.Station.meaning c.next_symbol.new.station in
     let seen : Seen = g.T.Transmitter.seen c.args.tx.now in
     let seen' : Seen = g.T.Transmitter.seen c.loop-symbol.tx in
@@ -64,7 +64,7 @@ returns-in-Some-clause-modulates g c = λ t₀ files work empty.
     let start : Meaning = g.S.Station.meaning c.write_header.new.station in
     let t = ap (λ (x : Meaning). x.tells) c.in_ok-write_header.ensures.others ∙ t₀ in
     let w = headed c.args.limits.now.packets files before start c.args.inputs (g.T.Transmitter.seen c.args.tx.now) (g.T.Transmitter.stands c.args.tx.now) work empty c.in_ok-write_header.ensures.others c.symbols.ensures.none c.requires.none_made
-        (subst (λ (s : Settings). WritesBytes (header s.mode) before start (Ok tt)) (sym c.requires.same) (c.in_ok-write_header.ensures.written t₀)) in
+    (subst (λ (s : Settings). WritesBytes (header s.mode) before start (Ok tt)) (sym c.requires.same) (c.in_ok-write_header.ensures.written t₀)) in
     let m : Meaning = g.S.Station.meaning c.next_symbol.new.station in
     let seen : Seen = g.T.Transmitter.seen c.args.tx.now in
     let seen' : Seen = g.T.Transmitter.seen c.loop-symbol.tx in
@@ -120,7 +120,7 @@ returns-clause-modulates g c = λ t₀ files work empty.
     let start : Meaning = g.S.Station.meaning c.write_header.new.station in
     let t = ap (λ (x : Meaning). x.tells) c.in_ok-write_header.ensures.others ∙ t₀ in
     let w = headed c.args.limits.now.packets files before start c.args.inputs (g.T.Transmitter.seen c.args.tx.now) (g.T.Transmitter.stands c.args.tx.now) work empty c.in_ok-write_header.ensures.others c.symbols.ensures.none c.requires.none_made
-        (subst (λ (s : Settings). WritesBytes (header s.mode) before start (Ok tt)) (sym c.requires.same) (c.in_ok-write_header.ensures.written t₀)) in
+    (subst (λ (s : Settings). WritesBytes (header s.mode) before start (Ok tt)) (sym c.requires.same) (c.in_ok-write_header.ensures.written t₀)) in
     let m : Meaning = g.S.Station.meaning c.loop-symbol.station in
     let seen : Seen = g.T.Transmitter.seen c.args.tx.now in
     let seen' : Seen = g.T.Transmitter.seen c.loop-symbol.tx in
