@@ -203,9 +203,8 @@ impl MeasuredWords {
         self.outer.put_byte(byte, &mut self.slots);
     }
 
-    /// Decodes the words that wait, by this number of workers, and counts them: those below number `limit` in the current
-    /// super-frame, the
-    /// others after it.
+    /// Decodes the words that wait, by this number of workers, and counts them: those below number `limit` in the
+    /// current super-frame, the others after it.
     pub fn finish<R: Threads + Sync, G: Gate>(&mut self, rt: &R, gate: &G, workers: u8, limit: u64)
         requires some_worker { 1 ≤ workers }
         requires few_workers { workers ≤ 16 }
