@@ -13,12 +13,13 @@ use Rattle.transmission.specs.SuperFrames.{packets_for, symbols_of}
 use Rattle.transmission.specs.Agenda.{next_stream, packet_refusal}
 use Rattle.transmission.specs.Agenda as agenda
 use Rattle.transmission.specs.AgendaLaws.{IsAt, StopsAt, TakesOfHp, TakesOfLp, StopsAtPacket, SentSoFar, SentAtFault}
+use Rattle.modulator.specs.State.{HasOneMore, Transmitter}
 use Rattle.cmd_base.specs.declared.refusal.Refusal.{Refusal}
 use Rattle.cmd_base.specs.declared.refusal.Refusal.TheVariants.{Usage, Settings, ReadFault, WriteFault, NotSync, Memory, Limit, Cells}
 use Rattle.cmd_modulate.specs.ModulateCommand.{HoldsSymbolsSoFar, cells_sent, inputs_of, modulation_refusal, refused_by, sent_by, taken_of, file_of_symbols}
 use Rattle.cmd_modulate.specs.Inputs.{left_of}
 use Rattle.cmd_modulate.specs.declared.inputs.PacketInputs.{PacketInputs}
-use Rattle.cmd_modulate.specs.Seen.{Seen, wanted, with_one}
+use Rattle.cmd_modulate.specs.Seen.{Seen, seen_of, wanted, with_one}
 use Rattle.cmd_modulate.specs.Work.{AreNear, BothRead, BothTell, GivesOf, IsAtWork, IsDue, Stops}
 
 -- ---- what is wanted
@@ -187,6 +188,15 @@ are_near limit files σ t m inputs Memory g = g.1
 are_near limit files σ t m inputs (Limit n) g = g.1
 
 -- ---- a packet was put
+like : (σ : Stream) (old new : Transmitter) → new.settings ≡ old.settings → new.made ≡ old.made → HasOneMore (Some σ) old new
+    → seen_of new ≡ with_one σ (seen_of old)
+like Hp old new settings made more = cc (settings, made, more.0, more.1)
+like Lp old new settings made more = cc (settings, made, more.0, more.1)
+
+pub one_put : (σ : Stream) (old new : Transmitter) → wanted (seen_of old) ≡ Some σ → new.settings ≡ old.settings → new.made ≡ old.made
+    → HasOneMore (wanted (seen_of old)) old new → seen_of new ≡ with_one σ (seen_of old)
+one_put σ old new is settings made counts = like σ old new settings made (subst (λ (w : Option Stream). HasOneMore w old new) is counts)
+
 module _ (takes_hp : TakesOfHp) (takes_lp : TakesOfLp) (limit : ℕ) (files : Stream → List ℕ) (t : Seen)
     (at : IsAt t.settings limit (inputs_of files) t.made t.hp t.lp) where
   one_more : (σ : Stream) → wanted t ≡ Some σ → packet_refusal limit (inputs_of files) σ (by_stream t.hp t.lp σ) ≡ None
@@ -196,11 +206,10 @@ module _ (takes_hp : TakesOfHp) (takes_lp : TakesOfLp) (limit : ℕ) (files : St
 
   pub goes_on : (σ : Stream) (is_wanted : wanted t ≡ Some σ) (m : Meaning) (inputs : PacketInputs) (t' : Seen) (put : Inputs → Type 0) (packet : List ℕ)
       → GivesOf limit files σ t m inputs (Ok packet)
-      → IfSome (wanted t) (λ τ. t' ≡ with_one τ t)
+      → t' ≡ with_one σ t
       → (IfSome (wanted t) (λ τ. packet ≡ packet_at (inputs_of files τ) (by_stream t.hp t.lp τ)) → put (inputs_of files))
       → IsAtWork limit files m inputs t' put
-  goes_on σ is_wanted m inputs t' put packet gives seen stands =
-      let same : t' ≡ with_one σ t = subst (λ (o : Option Stream). IfSome o (λ τ. t' ≡ with_one τ t)) is_wanted seen in
+  goes_on σ is_wanted m inputs t' put packet gives same stands =
       record {
         at = subst (λ (x : Seen). IsAt x.settings limit (inputs_of files) x.made x.hp x.lp) (sym same) (one_more σ is_wanted gives.1);
         stands = stands (subst (λ (o : Option Stream). IfSome o (λ τ. packet ≡ packet_at (inputs_of files τ) (by_stream t.hp t.lp τ))) (sym is_wanted) gives.0);

@@ -1,17 +1,18 @@
 // The transport files of both streams.
 ghost use Rattle.std.specs.Prelude.{◌≡◌, ◌<◌, ℕ, List, Some, None, IsTrue, OnOk, OnErr};
 ghost use Rattle.mode_set.specs.declared.modes.Stream.{Stream as AnyStream};
+ghost use Rattle.modulator.specs.State.{HasPut};
 ghost use Rattle.cmd_base.specs.Causes.{HasCause};
-ghost use Rattle.cmd_modulate.specs.Seen.{Seen, wanted, with_one};
+ghost use Rattle.cmd_modulate.specs.Seen.{Seen, seen_of, wanted, with_one};
 ghost use Rattle.cmd_modulate.specs.Steps.{first_inputs};
 ghost use Rattle.cmd_modulate.specs.Work.{AreOpen, AreWithin, BothRead, CountsAt, GivesOf, GoesOn, IsAtWork, IsDue};
 ghost use Rattle.cmd_modulate.specs.Work.{KeepsOutputs};
 
 use crate::counts::TransmissionCounts;
 use crate::input::PacketInput;
-use crate::transmitter::Transmitter;
 use cmd_base::{Counts, Refusal};
-use mode_set::{Settings, Stream};
+use mode_set::{Carriers, Settings, Stream};
+use modulator::Modulator;
 use station_core::Station;
 use transmission::laws::work;
 use ts_packet::Packet;
@@ -63,28 +64,28 @@ impl PacketInputs {
         }
     }
 
-    /// Reads the next packet of the wanted stream, and puts it into the transmitter.
-    pub fn put_next<'a, T: Transmitter, S: Station<'a>>(
+    /// Reads the next packet of the wanted stream, and puts it into the modulator.
+    pub fn put_next<'a, M: Carriers, S: Station<'a>>(
         &mut self,
         stream: Stream,
         limit: u64,
-        tx: &mut T,
+        tx: &mut Modulator<M>,
         station: &mut S,
     ) -> Result<(), Refusal>
         requires open { AreOpen self.old (S.meaning station.old) }
         requires within { AreWithin limit self.old }
-        requires wanted { wanted (T.seen tx.old) ≡ Some stream }
+        requires wanted { wanted (seen_of tx.old) ≡ Some stream }
         ensures open { AreOpen self.new (S.meaning station.new) }
         ensures within { AreWithin limit self.new }
         ensures met { self.new.lp.tail ≡ None → self.old.lp.tail ≡ None }
         ensures others { KeepsOutputs (S.meaning station.old) (S.meaning station.new) }
         ensures cause { HasCause (S.meaning station.old) (S.meaning station.new) result }
-        ensures seen { OnOk result (T.seen tx.new ≡ with_one stream (T.seen tx.old)) }
-        ensures kept { OnErr result (T.seen tx.new ≡ T.seen tx.old) }
+        ensures seen { OnOk result (seen_of tx.new ≡ with_one stream (seen_of tx.old)) }
+        ensures kept { OnErr result (seen_of tx.new ≡ seen_of tx.old) }
         ensures works { IsTrue (S.meaning station.old).tells → (files : AnyStream → List ℕ)
-            → IsDue files (T.seen tx.old)
-            → IsAtWork limit files (S.meaning station.old) self.old (T.seen tx.old) (T.stands tx.old)
-            → GoesOn limit files (S.meaning station.new) self.new (T.seen tx.new) (T.stands tx.new) result }
+            → IsDue files (seen_of tx.old)
+            → IsAtWork limit files (S.meaning station.old) self.old (seen_of tx.old) (HasPut tx.old)
+            → GoesOn limit files (S.meaning station.new) self.new (seen_of tx.new) (HasPut tx.new) result }
     {
         work();
         let packet = self.next_packet(stream, limit, station)?;
@@ -93,7 +94,7 @@ impl PacketInputs {
     }
 
     /// The counts, once all inputs have ended and exactly their super-frames were sent.
-    pub fn counts_at<T: Transmitter>(
+    pub fn counts_at<M: Carriers>(
         &self,
         settings: &Settings,
         symbols: u64,
@@ -103,7 +104,7 @@ impl PacketInputs {
     {
         let hp_tail = self.hp.tail?;
         let lp_tail = self.lp.tail?;
-        let super_frames = T::super_frames(settings, self.hp.taken, self.lp.taken)?;
+        let super_frames = Modulator::<M>::super_frames(settings, self.hp.taken, self.lp.taken)?;
         if symbols % 272 != 0 || symbols / 272 != super_frames {
             return None;
         }

@@ -8,11 +8,9 @@ mod command;
 mod counts;
 mod input;
 mod inputs;
-mod modulators;
 mod run;
 mod steps;
 mod symbols;
-mod transmitter;
 
 pub use command::modulate;
 pub use counts::TransmissionCounts;

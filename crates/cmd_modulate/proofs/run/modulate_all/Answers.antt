@@ -5,9 +5,10 @@ use Rattle.station_core.specs.Meaning.{Meaning}
 use Rattle.mode_set.specs.declared.modes.Stream.{Stream}
 use Rattle.mode_set.specs.declared.modes.Stream.TheVariants.{Lp}
 use Rattle.symbol_parameters.specs.Spans.{exists_in}
+use Rattle.modulator.specs.State.{HasPut}
 use Rattle.cmd_modulate.specs.ModulateCommand.{files_of, inputs_of}
 use Rattle.cmd_modulate.specs.declared.inputs.PacketInputs.{PacketInputs}
-use Rattle.cmd_modulate.specs.Seen.{Seen}
+use Rattle.cmd_modulate.specs.Seen.{Seen, seen_of}
 use Rattle.cmd_modulate.specs.Work.{AreOpen, AreWithin, IsAtWork}
 use Rattle.cmd_modulate.specs.Reporting.{Finishes}
 use Rattle.cmd_modulate.specs.Steps.{IsAccepted, OpensAll, Ran, first_inputs}
@@ -24,7 +25,7 @@ send_file-requires g c κs =
     let old : Meaning = g.S.Station.meaning c.args.station.now in
     let mid : Meaning = g.S.Station.meaning c.open.new.station in
     let lp : Option (List ℕ) = option_copied c.args.names.lp in
-    let s = (g.T.Transmitter.seen c.args.tx.now).settings in
+    let s = c.args.tx.now.settings in
     let first : c.first.result ≡ first_inputs (is_some lp) = c.first.ensures ∙ ap first_inputs (c.is_some-two.ensures ∙ copied_some c.args.names.lp) in
     let opened : OpensAll c.args.names.hp.now lp c.args.names.cells.now old mid (Ok tt) = c.in_ok-open.ensures.opened in
     let two : c.first.result.lp.tail ≡ None → IsTrue (exists_in s Lp) = λ none. lp_exists s lp c.requires.form (subst (λ (x : PacketInputs). x.lp.tail ≡ None) first none) in
@@ -50,7 +51,7 @@ pub returns-in_err-open-clause-ran : goal.returns-in_err-open-clause-ran
 returns-in_err-open-clause-ran g c =
     let old : Meaning = g.S.Station.meaning c.args.station.now in
     let mid : Meaning = g.S.Station.meaning c.open.new.station in
-    let s = (g.T.Transmitter.seen c.args.tx.now).settings in
+    let s = c.args.tx.now.settings in
     handed_on c.from_residual.result c.in_err-open.field-0.0
     (Ran s c.args.limits.now.packets c.args.names.hp.now (option_copied c.args.names.lp) c.args.names.cells.now old mid)
     c.from_residual.ensures.1 (inl c.in_err-open.ensures.opened)
@@ -61,8 +62,8 @@ returns-in-Ok-clause-ran g c =
     let mid : Meaning = g.S.Station.meaning c.open.new.station in
     let fin : Meaning = g.S.Station.meaning c.send_file.new.station in
     let new : Meaning = g.S.Station.meaning c.finish.new.station in
-    let t : Seen = g.T.Transmitter.seen c.args.tx.now in
-    let put = g.T.Transmitter.stands c.args.tx.now in
+    let t : Seen = seen_of c.args.tx.now in
+    let put = HasPut c.args.tx.now in
     let hp : List ℕ = c.args.names.hp.now in
     let lp : Option (List ℕ) = option_copied c.args.names.lp in
     let cells : List ℕ = c.args.names.cells.now in
@@ -82,8 +83,8 @@ returns-in-Err-clause-ran g c =
     let mid : Meaning = g.S.Station.meaning c.open.new.station in
     let fin : Meaning = g.S.Station.meaning c.send_file.new.station in
     let new : Meaning = g.S.Station.meaning c.close_refused.new.station in
-    let t : Seen = g.T.Transmitter.seen c.args.tx.now in
-    let put = g.T.Transmitter.stands c.args.tx.now in
+    let t : Seen = seen_of c.args.tx.now in
+    let put = HasPut c.args.tx.now in
     let hp : List ℕ = c.args.names.hp.now in
     let lp : Option (List ℕ) = option_copied c.args.names.lp in
     let cells : List ℕ = c.args.names.cells.now in
@@ -101,7 +102,7 @@ returns-in_err-open-clause-cause g c =
     let old : Meaning = g.S.Station.meaning c.args.station.now in
     let mid : Meaning = g.S.Station.meaning c.open.new.station in
     let files : Stream → List ℕ = files_of old.file c.args.names.hp.now (option_copied c.args.names.lp) in
-    let whole : Type 0 = old.tells ≡ true → IsAccepted (g.T.Transmitter.seen c.args.tx.now).settings c.args.limits.now.packets files in
+    let whole : Type 0 = old.tells ≡ true → IsAccepted c.args.tx.now.settings c.args.limits.now.packets files in
     handed_on c.from_residual.result c.in_err-open.field-0.0 (HasEndCause whole old mid) c.from_residual.ensures.1
     (refused_cause (Unit {0}) TransmissionCounts whole old old mid mid c.in_err-open.field-0.0 (record { reads = refl; writes = refl }) c.in_err-open.ensures.cause refl refl
     (unopened_waits c.args.names.hp.now (option_copied c.args.names.lp) c.args.names.cells.now old mid c.in_err-open.field-0.0 c.in_err-open.ensures.opened ∙ c.requires.ready.settled))
@@ -112,8 +113,8 @@ returns-in-Ok-clause-cause g c =
     let mid : Meaning = g.S.Station.meaning c.open.new.station in
     let fin : Meaning = g.S.Station.meaning c.send_file.new.station in
     let new : Meaning = g.S.Station.meaning c.finish.new.station in
-    let t : Seen = g.T.Transmitter.seen c.args.tx.now in
-    let put = g.T.Transmitter.stands c.args.tx.now in
+    let t : Seen = seen_of c.args.tx.now in
+    let put = HasPut c.args.tx.now in
     let hp : List ℕ = c.args.names.hp.now in
     let lp : Option (List ℕ) = option_copied c.args.names.lp in
     let cells : List ℕ = c.args.names.cells.now in
@@ -139,5 +140,5 @@ returns-in-Err-clause-cause g c =
     let new : Meaning = g.S.Station.meaning c.close_refused.new.station in
     let files : Stream → List ℕ = files_of old.file c.args.names.hp.now (option_copied c.args.names.lp) in
     let shut = c.close_refused.ensures.closed in
-    settled_cause TransmissionCounts TransmissionCounts (old.tells ≡ true → IsAccepted (g.T.Transmitter.seen c.args.tx.now).settings c.args.limits.now.packets files) old mid fin shut.flushed new c.in-Err.refusal c.close_refused.result
+    settled_cause TransmissionCounts TransmissionCounts (old.tells ≡ true → IsAccepted c.args.tx.now.settings c.args.limits.now.packets files) old mid fin shut.flushed new c.in-Err.refusal c.close_refused.result
     c.in_ok-open.ensures.cause c.in-Err.ensures.cause shut.settles (ap (λ (x : Meaning). x.read_faults) shut.closes.closed) (ap (λ (x : Meaning). x.write_faults) shut.closes.closed) (ap (λ (x : Meaning). x.pending) shut.closes.closed)

@@ -28,7 +28,7 @@ returns-in_err-write_lp-clause-writes g c =
     let m2 : Meaning = g.S.Station.meaning c.write_lp.new.station in
     let lp : List ℕ = if c.args.two then packets_line Lp c.args.counts.now.lp else [] in
     let frames : List ℕ = super_frames_line c.args.counts.now.super_frames in
-    handed_on c.from_residual.result c.in_err-write_lp.field-0.0 (WritesLines (packets_line Hp c.args.counts.now.hp ++ (lp ++ frames)) m m2) c.from_residual.ensures.1
+    handed_on c.from_residual-in_err-write_lp.result c.in_err-write_lp.field-0.0 (WritesLines (packets_line Hp c.args.counts.now.hp ++ (lp ++ frames)) m m2) c.from_residual-in_err-write_lp.ensures.1
     (writes_then (packets_line Hp c.args.counts.now.hp) (lp ++ frames) m m1 m2 (Err c.in_err-write_lp.field-0.0)
     (subst (λ (l : List ℕ). WritesLines l m m1 (Ok tt)) c.packets_line_of.ensures.text c.in_ok-write_line.ensures.writes)
     (writes_stopped lp frames m1 m2 c.in_err-write_lp.field-0.0 c.in_err-write_lp.ensures.writes))
