@@ -3,7 +3,7 @@ ghost use Rattle.std.specs.Prelude.{ℕ, ◌<◌, ◌^◌, get_or};
 ghost use Rattle.mode_set.specs.StreamTable.{label_bits};
 ghost use Rattle.mode_set.specs.declared.modes.Shape.{Shape as AnyShape};
 
-use frame_build::{SymbolIn, SymbolOut, WordCarriers, header};
+use frame_build::{SymbolIn, SymbolOut, header};
 use mode_set::{Entry, Mode, Mode2k, Rate, Shape};
 use qam_map::Cell;
 use std::alloc::{AllocError, Global};
@@ -78,8 +78,7 @@ fn cells_of_changing_parameters(rt: HostRuntime) -> Result<(), Fail> {
     Ok(())
 }
 
-// Four symbols, each over the one before it, are those that another builder appends, by labels in either order: all are
-// the same.
+// Four symbols, each over the one before it, are those that another builder appends.
 #[test]
 fn symbols_over_a_slice(rt: HostRuntime) -> Result<(), Fail> {
     let one = flat(Mode::M2k, Shape::Qpsk, Rate::R1of2).top();
@@ -88,19 +87,15 @@ fn symbols_over_a_slice(rt: HostRuntime) -> Result<(), Fail> {
     let bytes = four_symbols(rt.alloc(), &symbols)?;
     assert!(&rt; bytes.len() == 34100);
     let labels = labels();
-    let settings = flat(Mode::M2k, Shape::Qpsk, Rate::R1of2);
-    let mut out = SymbolOut::<Mode2k>::new(&settings);
-    let mut by_words = SymbolOut::<Mode2k>::new(&settings);
-    let mut carriers = WordCarriers::<Mode2k>::new(rt.alloc())?;
+    let mut out = SymbolOut::<Mode2k>::new(&flat(Mode::M2k, Shape::Qpsk, Rate::R1of2));
     let mut symbol = [0xFFu8; 8525];
-    let mut word_symbol = [0xFFu8; 8525];
     for k in 0..4usize {
         let (now, next) = &symbols[k];
         out.write_into(now, next, &labels, &mut symbol);
-        by_words.write_words(now, next, &labels, &mut carriers, &mut word_symbol);
-        let appended = &bytes[8525 * k..8525 * k + 8525];
-        assert!(&rt; appended == symbol.as_slice(), "symbol {k}");
-        assert!(&rt; appended == word_symbol.as_slice(), "words of symbol {k}");
+        assert!(&rt;
+            &bytes[8525 * k..8525 * k + 8525] == symbol.as_slice(),
+            "symbol {k}"
+        );
     }
     Ok(())
 }
