@@ -148,9 +148,6 @@ fn check(rt: &impl Abort, alloc: Global, document: &[u8], hp: u16, lp: u16, sum:
 const BASE: &[u8] =
     b"mode = \"2k\"\nconstellation = \"qpsk\"\nrate_hp = \"1/2\"\nguard = \"1/32\"\n";
 
-const SIX_BITS: &[u8] =
-    b"mode = \"8k\"\nconstellation = \"64qam\"\nrate_hp = \"2/3\"\nguard = \"1/32\"\n";
-
 const TWO_STREAMS: &[u8] =
     b"mode = \"8k\"\nconstellation = \"64qam\"\nhierarchy = \"2\"\nrate_hp = \"2/3\"\nrate_lp = \"3/4\"\nguard = \"1/32\"\n";
 
@@ -218,11 +215,9 @@ fn symbols_over_a_slice(rt: HostRuntime) {
     let settings = settings_of(&rt, alloc, BASE);
     assert!(&rt; settings.mode == Mode::M2k);
     check_both_ways::<Mode2k>(&rt, alloc, &settings).expect(&rt, "memory");
-    for text in [SIX_BITS, TWO_STREAMS] {
-        let settings = settings_of(&rt, alloc, text);
-        assert!(&rt; settings.mode == Mode::M8k);
-        check_both_ways::<Mode8k>(&rt, alloc, &settings).expect(&rt, "memory");
-    }
+    let settings = settings_of(&rt, alloc, TWO_STREAMS);
+    assert!(&rt; settings.mode == Mode::M8k);
+    check_both_ways::<Mode8k>(&rt, alloc, &settings).expect(&rt, "memory");
 }
 
 // Pilots, a TPS cell and a data cell of the first symbol of null packets, and the TPS cell of the fourth.
