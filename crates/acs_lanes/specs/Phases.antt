@@ -15,9 +15,8 @@ abbrev pub lane_by : ℕ → ℕ → ℕ → ℕ → ℕ → ℕ → ℕ
 lane_by e d c b a k = 16 * (k / 2 ^ e % 2) + 8 * (k / 2 ^ d % 2) + 4 * (k / 2 ^ c % 2) + 2 * (k / 2 ^ b % 2)
     + k / 2 ^ a % 2
 
--- Which lane the states 2k and 2k + 1 have before a step of this phase, in two vectors each. The step leaves the states
--- k and
--- k + 32 in their places.
+-- Which lane the states 2k and 2k + 1 have before a step of this phase, in two vectors each. The step leaves the
+-- states k and k + 32 in their places.
 abbrev pub way_in : ℕ → ℕ → ℕ
 way_in zero k = way k
 way_in (suc zero) k = lane_by 2 3 0 1 4 k
@@ -58,8 +57,7 @@ abbrev pub all_sums : CostPair → List ℕ
 all_sums pair = map (λ k. slice_index (four pair) (k % 4)) (range_with_len 0 16)
 
 -- What the steps cost in the first and in the last vectors: from the even states on 0, as from the odd ones on 1, and
--- from the
--- even ones on 1, as from the odd ones on 0.
+-- from the even ones on 1, as from the odd ones on 0.
 pub record AreCostsIn (phase : ℕ) (pair : CostPair) (zero_first one_first zero_last one_last : List ℕ) : Type 0 where
   pub zero_first_len : length zero_first ≡ 16
   pub one_first_len : length one_first ≡ 16

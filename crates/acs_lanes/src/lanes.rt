@@ -50,9 +50,8 @@ pub(crate) fn four_costs(pair: CostPair) -> u32x4
     costs.swizzle([0, 0, 1, 1]) + costs.swizzle([2, 3, 2, 3])
 }
 
-/// The costs of the steps from the even states below 32 on 0, which are those from the odd states on 1, and the others:
-/// X
-/// and Y of two steps both differ where the oldest bit alone or the input alone does.
+/// The costs of the steps from the even states below 32 on 0, which are those from the odd states on 1, and the
+/// others: X and Y of two steps both differ where the oldest bit alone or the input alone does.
 pub(crate) fn first_costs(costs: u32x4) -> (u32x16, u32x16)
     ensures { (pair : Pair) → costs ≡ four pair → AreStepCosts pair 0 result.0 result.1 }
 {
@@ -89,9 +88,8 @@ pub(crate) fn pick(even: u32x16, even_step: u32x16, odd: u32x16, odd_step: u32x1
     (least, !least.simd_eq(evens).to_bitmask() & 0xFFFF)
 }
 
-/// What comes of 32 states in a row, by the costs of their steps: the costs of 16 states below 32 and of the 16 states
-/// that
-/// lie 32 above them, and behind each the word that says which of them came from the odd state.
+/// What comes of 32 states in a row, by the costs of their steps: the costs of 16 states below 32 and of the 16
+/// states that lie 32 above them, and behind each the word that says which of them came from the odd state.
 fn sixteen(old: &[u32], zero: u32x16, one: u32x16) -> (u32x16, u64, u32x16, u64)
     requires old { length old.now ≡ 32 }
     requires zero { length zero ≡ 16 }
@@ -130,9 +128,8 @@ fn joined(first: u64, last: u64) -> u64
     first | last << 16
 }
 
-/// What comes of the upper half of the states: the costs of the states from 48 on are written, those of the states from
-/// 16
-/// to 31 wait until the lower half is read.
+/// What comes of the upper half of the states: the costs of the states from 48 on are written, those of the states
+/// from 16 to 31 wait until the lower half is read.
 fn last_half(cost: &mut [u32; 64], waiting: &mut [u32; 16], costs: u32x4) -> (u64, u64)
     requires costs { (pair : Pair) × (costs ≡ four pair) }
     requires fit { (j : ℕ) → j < 64 → slice_index cost.old j + 8190 < 2 ^ 32 }

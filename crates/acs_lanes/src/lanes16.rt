@@ -7,8 +7,7 @@ use std::simd::cmp::{SimdOrd, SimdPartialOrd};
 use std::simd::{u16x16, u32x16};
 
 /// The costs of the 64 states, 16 of them in each vector, in an order that a step gives back: the even states in the
-/// first
-/// two vectors, the odd ones in the last two.
+/// first two vectors, the odd ones in the last two.
 #[derive(Clone, Copy, Drop)]
 pub(crate) struct Lanes {
     pub(crate) a: u16x16,

@@ -11,8 +11,7 @@ use std::simd::cmp::SimdPartialOrd;
 use std::simd::{u8x16, u8x32, u16x16};
 
 /// The costs of the steps from the even states on 0, as from the odd ones on 1, and of the others: of the first
-/// vectors, and
-/// of the second ones.
+/// vectors, and of the second ones.
 #[inline(always)]
 pub(crate) fn costs_in(phase: usize, sums: u16x16) -> (u16x16, u16x16, u16x16, u16x16)
     requires { phase < 6 }

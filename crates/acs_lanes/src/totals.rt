@@ -10,10 +10,8 @@ use std::simd::u32x16;
 /// Takes a step forward: from the least sums to each state before a step to those behind it.
 ///
 /// A state is the register of the inner code as a number below 64: the newest bit is bit 5, the oldest bit 0. State n
-/// is
-/// reached from the states `2 * (n % 32)` and the one after it, on the input that is its newest bit. Each sum must have
-/// room
-/// for the costs of a step, at most 8190 (EN 300 744, 4.3.3).
+/// is reached from the states `2 * (n % 32)` and the one after it, on the input that is its newest bit. Each sum must
+/// have room for the costs of a step, at most 8190 (EN 300 744, 4.3.3).
 pub fn forward(sums: &mut [u32; 64], pair: CostPair)
     requires fit { (n : ℕ) → n < 64 → slice_index sums.old n + 8190 < 2 ^ 32 }
     ensures step { IsForward pair sums.old sums.new }
@@ -60,9 +58,8 @@ fn store_all(sums: &mut [u32; 64], a: u32x16, b: u32x16, c: u32x16, d: u32x16)
 /// Takes a step backward: from the least sums that paths cost from each state behind a step on to those from each state
 /// before it.
 ///
-/// States `2 * k` and the one after it lead to state k on the input 0 and to state k + 32 on 1. Each sum must have room
-/// for
-/// the costs of a step, at most 8190 (EN 300 744, 4.3.3).
+/// States `2 * k` and the one after it lead to state k on the input 0 and to state k + 32 on 1. Each sum must have
+/// room for the costs of a step, at most 8190 (EN 300 744, 4.3.3).
 pub fn backward(sums: &mut [u32; 64], pair: CostPair)
     requires fit { (n : ℕ) → n < 64 → slice_index sums.old n + 8190 < 2 ^ 32 }
     ensures step { IsBackward pair sums.old sums.new }

@@ -282,9 +282,8 @@ impl<const N: usize> BitBuf<N> {
         }
     }
 
-    /// Takes the first bits out and writes them as bytes, the first one of each the most significant. As many must wait
-    /// as
-    /// the bytes have.
+    /// Takes the first bits out and writes them as bytes, the first one of each the most significant. As many must
+    /// wait as the bytes have.
     pub fn take_bytes(&mut self, to: &mut [u8])
         requires { 8 * length to.old ≤ length self.old }
         ensures size { length to.new ≡ length to.old }

@@ -40,8 +40,7 @@ IsUntaken c m port = (k : ℕ) × (k ≤ header_at c m port) × (unread c m port
 
 -- a run of command c with this limit, from `old` to `new`, that returned this status
 pub record Run (c : Command) (limit : ℕ) (old new : Meaning) (status : ℕ) : Type 0 where
-  -- STATUSES
-  -- The status is one of the command's own.
+  -- STATUSES The status is one of the command's own.
   pub known : is_among status c.statuses ≡ true
   -- Status 5 is given only if a read failed, or an input could not be opened.
   pub read_fault : status ≡ 5 → Rose old.read_faults new.read_faults
@@ -69,8 +68,7 @@ pub record Run (c : Command) (limit : ℕ) (old new : Meaning) (status : ℕ) : 
       → (Rose old.read_faults new.read_faults → ⊥) → (Rose old.write_faults new.write_faults → ⊥)
       → (Rose old.close_faults new.close_faults → ⊥)
       → (status ≡ 0) ⊎ (status ≡ 7)
-  -- FILES AND THEIR ORDER
-  -- Only the command's files are requested, each at its port.
+  -- FILES AND THEIR ORDER Only the command's files are requested, each at its port.
   pub sources : (port : InPort) → ((source_at port new).asked ≡ None) ⊎ ((source_at port new).asked ≡ c.reads port)
   pub sinks : (port : OutPort) → ((sink_at port new).asked ≡ None) ⊎ ((sink_at port new).asked ≡ c.writes port)
   -- Settings come first: no other file is requested before they were opened, read to their end and accepted.
@@ -106,8 +104,7 @@ pub record Run (c : Command) (limit : ℕ) (old new : Meaning) (status : ℕ) : 
   pub same_telling : new.tells ≡ old.tells
   pub same_files : new.file ≡ old.file
   pub report_open : new.report.closed ≡ old.report.closed
-  -- OUTPUTS AT STATUS 0
-  -- Each output holds exactly what the command defines for it, and Report holds its lines.
+  -- OUTPUTS AT STATUS 0 Each output holds exactly what the command defines for it, and Report holds its lines.
   pub done : old.tells ≡ true → status ≡ 0 → (out : OutPort) → IsOutput c out
       → c.Comes limit old.file out (sink_at out new).written
   pub done_report : old.tells ≡ true → status ≡ 0 → c.Prints limit old.file new.report.written
@@ -120,8 +117,8 @@ pub record Run (c : Command) (limit : ℕ) (old new : Meaning) (status : ℕ) : 
       ⊎ c.LacksAtWork limit old.file (unread c new)
   pub early_report : old.tells ≡ true → is_among status (2 ∷ 3 ∷ 7 ∷ []) ≡ true
       → Reports old new [] (text_at c limit old.file status)
-  -- AT 9: cells without their header
-  -- No output was requested or created. Nothing past the header was taken from the cells. Report holds the text.
+  -- AT 9: cells without their header No output was requested or created. Nothing past the header was taken from the
+  -- cells. Report holds the text.
   pub unheaded : status ≡ 9 → (out : OutPort) → IsOutput c out → IsUntouched (sink_at out new)
   pub unheaded_taken : old.tells ≡ true → status ≡ 9 → (port : InPort) → port ≢ Settings → IsInput c port
       → IsUntaken c new port
@@ -132,8 +129,8 @@ pub record Run (c : Command) (limit : ℕ) (old new : Meaning) (status : ℕ) : 
       → c.Comes limit old.file out (sink_at out new).written
   pub refused_report : old.tells ≡ true → is_among status (4 ∷ 8 ∷ 10 ∷ 11 ∷ []) ≡ true
       → (lines : List ℕ) × c.Prints limit old.file lines × Reports old new lines (text_at c limit old.file status)
-  -- AT 5: a failed read
-  -- Each output created holds the output for the bytes taken. Report holds their lines, then the text.
+  -- AT 5: a failed read Each output created holds the output for the bytes taken. Report holds their lines, then the
+  -- text.
   pub stopped : old.tells ≡ true → status ≡ 5 → (out : OutPort) → IsOutput c out → (sink_at out new).created ≡ true
       → c.ComesSoFar limit old.file (unread c new) out (sink_at out new).written
   pub stopped_report : old.tells ≡ true → status ≡ 5
@@ -146,6 +143,6 @@ pub record Run (c : Command) (limit : ℕ) (old new : Meaning) (status : ℕ) : 
   pub front_report : old.tells ≡ true → status ≡ 6
       → (lines : List ℕ) × c.Prints limit old.file lines × ((k : ℕ) × Reports old new (take k lines)
       (text_at c limit old.file status))
-  -- THE COMMAND'S OWN LAWS
-  -- The command's definitions obey its own laws, over all files: a station that knows no contents is no exception.
+  -- THE COMMAND'S OWN LAWS The command's definitions obey its own laws, over all files: a station that knows no
+  -- contents is no exception.
   pub own : (file : Files) → c.Own limit file

@@ -67,8 +67,7 @@ nothing_wrote Is before after m is same = record {
   written = λ t port. sym (append-nil (sink_at port m).written);
 }
 
--- ---- outputs that follow
--- more cells after the first ones
+-- ---- outputs that follow more cells after the first ones
 pub cells_follow : (c : Conversion) (bytes : List ℕ) (before : Written) (all more : List ℕ) → FirstGive c bytes before → all ≡ new_file c bytes ++ more → Follows before (written_at more []) (written_at all [])
 cells_follow c bytes before all more gives is port = go port ∙ ap (λ (l : List ℕ). l ++ written_at more [] port) (sym (gives port))
   where

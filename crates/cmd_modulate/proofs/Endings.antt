@@ -49,8 +49,7 @@ closed_as new m = record m {
 abbrev ClosedSince : Meaning → Meaning → Type 0
 ClosedSince m new = new ≡ closed_as new m
 
--- ---- prefixes of the cells sent
--- the symbols so far are one
+-- ---- prefixes of the cells sent the symbols so far are one
 front_so_far : PartOfSymbols → (s : TheSettings) (limit : ℕ) (inputs : Inputs) (m : ℕ) → m < symbols_of s inputs → m ≤ symbols_sent s limit inputs → (j : ℕ) × (file_of_symbols s inputs m ≡ take j (cells_sent s limit inputs))
 front_so_far part s limit inputs m more sent = go (first_refusal s limit inputs)
   where
@@ -75,8 +74,7 @@ front_so_far part s limit inputs m more sent = go (first_refusal s limit inputs)
 front_of_sent : (written sent : List ℕ) → written ≡ sent → (k : ℕ) × (written ≡ take k sent)
 front_of_sent written sent is = (length written, sym (take_all (length written) written (omega arith)) ∙ ap (λ (l : List ℕ). take (length written) l) is)
 
--- ---- before the first symbol
--- the file of LP can be read from its start, or there is none
+-- ---- before the first symbol the file of LP can be read from its start, or there is none
 lp_reads : (lp : Option (List ℕ)) (old mid : Meaning) (put : ℕ) → put ≡ 0 → old.lp.attached ≡ false → mid.lp ≡ lp_source lp old
     → Reads (named old.file lp) (lp_left mid) (first_inputs (is_some lp)).lp put
 lp_reads None old mid put none closed is =
@@ -271,8 +269,7 @@ unopened_waits hp lp cells old mid (Cells reason) e = absurd e
 unopened_waits hp lp cells old mid (Settings reason) e = absurd e
 unopened_waits hp lp cells old mid Memory e = absurd e
 
--- ---- the conditions of the work on the arguments
--- if LP is read, it exists in the transmission
+-- ---- the conditions of the work on the arguments if LP is read, it exists in the transmission
 pub lp_exists : (s : TheSettings) (lp : Option (List ℕ)) → fits_form s lp ≡ true → (first_inputs (is_some lp)).lp.tail ≡ None → IsTrue (exists_in s Lp)
 unfolding exists_in
 lp_exists s None fits none = absurd (let e : Some 0 ≡ None = none in cc)

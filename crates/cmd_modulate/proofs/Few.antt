@@ -21,8 +21,7 @@ use Rattle.cmd_modulate.specs.Seen.{Seen}
 use Rattle.cmd_modulate.specs.Work.{AreNear, BothRead, GivesOf, IsAtWork, TakeFew, TakesFew, TellsPut}
 use Rattle.cmd_modulate.proofs.Refusing.{packet_within, refused_past, refused_unsynced}
 
--- ---- one input
--- an input read so far is close to the packets put of it, and gives their number
+-- ---- one input an input read so far is close to the packets put of it, and gives their number
 near_of : (file left : List ℕ) (input : PacketInput) (put : ℕ) → Reads file left input put → IsNear file left put
 near_of file left input put reads = go input.tail reads.rest
   where

@@ -38,8 +38,7 @@ pub is_short : (s : TheSettings) (m hp lp : ℕ) (σ : Stream) → next_stream s
 is_short s m hp lp Hp e = ltb-true hp (packets_for s Hp (m + 1)) (hp_only (nat_lt hp (packets_for s Hp (m + 1))) (nat_lt lp (packets_for s Lp (m + 1))) e)
 is_short s m hp lp Lp e = ltb-true lp (packets_for s Lp (m + 1)) (lp_only (nat_lt hp (packets_for s Hp (m + 1))) (nat_lt lp (packets_for s Lp (m + 1))) e)
 
--- ---- the work is refused
--- the cells of the symbols before a refusal
+-- ---- the work is refused the cells of the symbols before a refusal
 pub cells_at : (s : TheSettings) (limit : ℕ) (inputs : Inputs) (r : agenda.Refusal) (m : ℕ) → StopsAt s limit inputs r m → cells_sent s limit inputs ≡ file_of_symbols s inputs m
 cells_at s limit inputs r m stops = ap (sent_by s limit inputs) stops.first ∙ ap (file_of_symbols s inputs) stops.sent
 

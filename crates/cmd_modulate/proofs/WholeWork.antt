@@ -27,8 +27,7 @@ use Rattle.cmd_modulate.specs.Work.{CountsAt, Ends, IsDue, IsWritten, Modulates,
 use Rattle.cmd_modulate.proofs.Few.{few_at_work}
 use Rattle.cmd_modulate.proofs.Stopping.{cells_at}
 
--- ---- one input
--- its end was reached
+-- ---- one input its end was reached
 at_end : (file left : List ℕ) (taken put tail : ℕ) (o : Option ℕ) → o ≡ Some tail → HasLeft file left taken o put → (left ≡ []) × (taken ≡ whole_packets file) × (tail ≡ tail_of file)
 at_end file left taken put tail o is h = let h' : HasLeft file left taken (Some tail) put = subst (λ (x : Option ℕ). HasLeft file left taken x put) is h in (h'.0, h'.1, h'.2)
 

@@ -71,8 +71,7 @@ pub data_cell : (s : Settings) (m : ℕ) (labels : ℕ → ℕ → Bool) (k q : 
 unfolding cell_of_kind
 data_cell s m labels k q = refl
 
--- ---- what the carriers send
--- the kind of a carrier, by what it is for
+-- ---- what the carriers send the kind of a carrier, by what it is for
 abbrev kind_by : Bool → Bool → Bool → ℕ → CarrierKind
 kind_by continual is_at tps q = if continual then Continual else if is_at then Scattered else if tps then Tps else Payload q
 

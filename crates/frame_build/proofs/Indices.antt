@@ -249,8 +249,7 @@ own_sent mo n now next s h m turned cells labels places k index em es eh numbere
       cell = ap (λ (z : ℕ). get_or cells (get_or places z 0) []) ei ∙ is.cell;
     }
 
--- ---- the order of words
--- the index of a carrier without a label stays
+-- ---- the order of words the index of a carrier without a label stays
 after_labels : (m : Mode) (odd : Bool) (i : ℕ) → payload m ≤ i → interleaved m odd i ≡ i
 after_labels m odd i l = ap (λ (b : Bool). if b then carried m odd i else i) (le-ltb i (payload m) l)
 

@@ -26,8 +26,7 @@ use Rattle.inner_chain.specs.CostPairs.{IsPairOf, costs_of_bit, weighted_costs_o
 use Rattle.inner_chain.specs.CostTables.{blocks, block_coded, block_steps, pair_at, entry_at, IsPlaced, IsRoom, AreCosts, AreCostEntries, IsRead, WritesPairs, most_places}
 use Rattle.inner_chain.proofs.Entering.{periods_of}
 
--- ---- amounts
--- the steps of a block, of a stream with w bits a label
+-- ---- amounts the steps of a block, of a stream with w bits a label
 abbrev Share : Mode → ℕ → Rate → Type 0
 Share m w r = (payload m * w * steps_in_period r / sent_in_period r / blocks m * sent_in_period r ≡ 252 * w * steps_in_period r)
     × (blocks m * (payload m * w * steps_in_period r / sent_in_period r / blocks m) ≡ payload m * w * steps_in_period r / sent_in_period r)
@@ -126,8 +125,8 @@ number_shifts law s σ b t xy =
     grouped : (b p k : ℕ) → b * p * k ≡ b * (p * k)
     grouped b p k = mul_assoc b p k
 
--- ---- costs
--- the costs at the entry of a coded bit of the first block are, in block b, those of the bit at its place there
+-- ---- costs the costs at the entry of a coded bit of the first block are, in block b, those of the bit at its place
+-- there
 cost_read : (s : Settings) (cells : List Cell) (weights : List ℕ) (l b : ℕ) (σ : Stream) (costs : List (ℕ × ℕ)) (d : Option ℕ) → AreCosts s cells weights l b costs → IsRoom costs → IsPlaced s σ d
     → pair_at costs (entry_at s σ d) ≡ costs_at (costs_of_bit s cells weights l σ) (option_map (λ n. b * block_coded s σ + n) d)
 cost_read s cells weights l b σ costs None a r placed = r.last most_places (omega arith)

@@ -90,8 +90,7 @@ weights_gathered m l b first table weights old list a w few repeat e before long
         go (inl low) = omega (arith, written q low, w.small (slice_index table (first + q)) (within q low))
         go (inr high) = omega (arith, rest q high, before.small q h)
 
--- ---- the costs of all places
--- the metric is that of the settings, and its costs of these payload cells are written
+-- ---- the costs of all places the metric is that of the settings, and its costs of these payload cells are written
 pub costs_all : (s : Settings) (m : Shape × Hierarchy) (cells list : List Cell) (weights ws : List ℕ) (l b : ℕ) (costs : List (ℕ × ℕ)) → m ≡ (s.shape, s.hierarchy) → AreWordCells s.mode cells l b list → AreWordWeights s.mode weights l b ws
     → ((q e : ℕ) (d : Cell) → q < length list → e < label_bits m.0 → pair_at costs (e * length list + q) ≡ weighted (costs_at_place m.0 m.1 (slice_index_or list q d) e) (slice_index ws q)) → AreCosts s cells weights l b costs
 unfolding costs_on weighted_costs_on

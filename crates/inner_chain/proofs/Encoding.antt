@@ -48,8 +48,7 @@ seven_are p path u is =
 six_are : (p : List Bool) (path : ℕ → Bool) (u : ℕ) → length p ≡ 6 → ((m : ℕ) → m < 6 → bit p m ≡ path (u + m)) → p ≡ bits_from path u 6
 six_are p path u long is = ext_get_or false p (bits_from path u 6) long (λ m l. let few : m < 6 = omega (arith, l, long) in is m few ∙ sym (get_or-map-range_with_len path u 6 m (u + m) false few refl))
 
--- ---- some steps more
--- the register and the bits behind it are bits of the path
+-- ---- some steps more the register and the bits behind it are bits of the path
 abbrev pub Along : (ℕ → Bool) → ℕ → List Bool → List Bool → Type 0
 Along path i register more = (m : ℕ) → m < 6 + length more → bit (register ++ more) m ≡ path (i + m)
 

@@ -69,8 +69,7 @@ later_half block j l = omega (arith, l)
 pub earlier_half : (block j : ℕ) → j < 63 → turned 1 (126 * block + 63 + j) ≡ 126 * block + j
 earlier_half block j l = omega (arith, l)
 
--- ---- the coded bits of a word
--- the word that the bit interleaver makes of coded bit 2 T + i
+-- ---- the coded bits of a word the word that the bit interleaver makes of coded bit 2 T + i
 word_is : (e T d w : ℕ) → d / 2 ≡ T → place_in_label Qpsk Flat Hp d ≡ e → 126 * (T / 126) + (T + 126 - offset e) % 126 ≡ w → word_of_bit Qpsk Flat Hp d ≡ w
 word_is e T d w et ep ew =
     ap (λ (z : ℕ). 126 * (d / 2 / 126) + (d / 2 + 126 - offset z) % 126) ep

@@ -325,8 +325,7 @@ carried_more words m odd n old mid new source a es inside e = record {
             let last : length a.labels ≡ q = a.long ∙ same in
             get_or_push a.labels x 0 q last ∙ ap (slice_index words) es ∙ ap (λ (z : ℕ). slice_index words (carried m odd z)) same
 
--- ---- the coded bits of a word
--- bit e of word w is coded bit d, the parity of a step
+-- ---- the coded bits of a word bit e of word w is coded bit d, the parity of a step
 pub bit_entry : (c : Shape) (r : Rate) (s : Settings) (e w d step n : ℕ) (y : Bool) → s.shape ≡ c → s.hierarchy ≡ Flat → s.rate_hp ≡ r → EachBitIsFound
     → Hp ≡ stream_at Flat e → place_in_label c Flat Hp d ≡ e → word_of_bit c Flat Hp d ≡ w → d < payload s.mode * width c Flat Hp
     → ((path : ℕ → Bool) → sent_bit r path d ≡ parity_at (cond y 1 0) path step) → ((p : ℕ) → d < p * sent_in_period r → step < p * steps_in_period r)

@@ -77,8 +77,7 @@ bit_favoured known s inputs bytes m σ d w l exists few =
     k : Bool → ℕ
     k b = cost z.shape z.hierarchy (on_axis (cell_on s bytes m q) e) e b
 
--- ---- a step
--- a sent bit is favoured, and a punctured one costs 0
+-- ---- a step a sent bit is favoured, and a punctured one costs 0
 allows_of : (f : ℕ → ℕ × ℕ) (o : Option ℕ) (sent : Bool) (n : ℕ) (b : Bool) → o ≡ cond sent (Some n) None → (sent ≡ true → Favours b (f n).0 (f n).1) → Allows b (costs_at f o).0 (costs_at f o).1
 allows_of f o true n b e h = inl (subst (λ (z : Option ℕ). Favours b (costs_at f z).0 (costs_at f z).1) (sym e) (h refl))
 allows_of f o false n b e h = inr (subst (λ (z : Option ℕ). (costs_at f z).0 ≡ (costs_at f z).1) (sym e) refl)

@@ -20,8 +20,7 @@ use Rattle.inner_chain.specs.CostPairs.{payload_place}
 use Rattle.symbol_parameters.specs.Spans.{settings_at}
 use Rattle.transmission.specs.Transmission.{Inputs, paths_at, tx_label}
 
--- ---- the bit of the label, and the word
--- a bit of a stream with n bits a label, from label bit f on
+-- ---- the bit of the label, and the word a bit of a stream with n bits a label, from label bit f on
 abbrev place_from : ℕ → ℕ → ℕ → ℕ
 place_from n f d = d % n / (n / 2) + 2 * (d % n % (n / 2)) + f
 

@@ -47,8 +47,7 @@ speak_all : (d : CostPair) (c : List CostPair) (p : List Bool) → ((t : ℕ) �
 speak_all d [] p h = tt
 speak_all d (x ∷ c) p h = (h 0 (omega arith), speak_all d c (drop 1 p) (λ t l. subst (SpeaksFor (get_or c t d)) (sym (dropped t p)) (h (suc t) (omega (arith, l)))))
 
--- ---- the path sent
--- six zeros, and the first n bits of a stream of bytes
+-- ---- the path sent six zeros, and the first n bits of a stream of bytes
 unfoldable sent_path : (ℕ → ℕ) → ℕ → List Bool
 sent_path bytes n = replicate 6 false ++ map (bit_of_stream bytes) (numbers n)
 
@@ -101,8 +100,7 @@ window_from path n t =
     moved : (k u : ℕ) → n + k ≡ u → path (n + k) ≡ path u
     moved k u e = ap path e
 
--- ---- the costs of all steps
--- the known facts on the costs of bytes
+-- ---- the costs of all steps the known facts on the costs of bytes
 pub record AreListed : Type 0 where
   pub long : CostsAreSteps
   pub step : CostOfStep

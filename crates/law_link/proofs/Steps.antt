@@ -51,8 +51,7 @@ before_most r p u l = go (in_periods r p u l)
         let none : count_by (λ c. nat_le (step_in_period c) (u % steps_in_period r)) (sent r) ≡ 0 = ap (λ (z : ℕ). count_by (λ c. nat_le (step_in_period c) z) (sent r)) b.1 ∙ none_yet r in
         omega (arith, whole, none)
 
--- ---- the bits of one step
--- X of a step has the number n, and so has Y, if they are sent
+-- ---- the bits of one step X of a step has the number n, and so has Y, if they are sent
 pub record IsNumberOf (r : Rate) (t : ℕ) (sx sy : Bool) (n : ℕ) : Type 0 where
   pub x : number_of r X t ≡ cond sx (Some n) None
   pub y : number_of r Y t ≡ cond sy (Some (n + cond sx 1 0)) None

@@ -105,8 +105,7 @@ new_byte s bytes m k j l few less =
     ∙ ap (λ (z : ℕ). get_or (upgraded s.mode bytes) z 0) (place s.mode m k j)
     ∙ upgraded_byte s.mode bytes (m * carriers s.mode + k) j (in_all s.mode m (old_symbols s.mode bytes) k l few) less
 
--- ---- cells
--- a number of two bytes is that of the bytes
+-- ---- cells a number of two bytes is that of the bytes
 two_bytes : (xs ys : List ℕ) (i j : ℕ) → get_or xs (i + 0) 0 ≡ get_or ys (j + 0) 0 → get_or xs (i + 1) 0 ≡ get_or ys (j + 1) 0 → big_number 2 (drop i xs) ≡ big_number 2 (drop j ys)
 two_bytes xs ys i j e f =
     let a : slice_index (drop i xs) 0 ≡ slice_index (drop j ys) 0 = get_or-drop i xs 0 0 ∙ e ∙ sym (get_or-drop j ys 0 0) in

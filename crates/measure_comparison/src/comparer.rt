@@ -176,9 +176,8 @@ impl<M: Carriers> Comparer<M> {
     /// The sums of the next symbol beside what the known bits of the streams stand for: None exactly if it is not
     /// compared.
     ///
-    /// The symbol is one of the four that are kept, and fewer than 2^32 symbols were compared or left out. The encoders
-    /// pass the known
-    /// bits of a symbol that is left out.
+    /// The symbol is one of the four that are kept, and fewer than 2^32 symbols were compared or left out. The
+    /// encoders pass the known bits of a symbol that is left out.
     pub fn compare(&mut self, hp: &mut KnownBits, lp: &mut KnownBits) -> Option<SymbolSums>
         requires few { self.old.next < 2 ^ 32 }
         requires hp_before { hp.old.before < 2 ^ 60 }

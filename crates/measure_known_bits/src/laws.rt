@@ -10,8 +10,7 @@ pub fn passing()
 }
 
 /// A symbol has at most 31,752 steps of a stream. If the encoder has passed what it could, no more bits wait than the
-/// symbols from
-/// the next one on have steps.
+/// symbols from the next one on have steps.
 pub fn rooms()
     ensures steps { StepsAreFew }
     ensures wait { FewWait }

@@ -70,9 +70,8 @@ fn words_of(settings: &Settings, stream: Stream, super_frame: u32) -> u64
 }
 
 impl StreamMeter {
-    /// The meter of a stream of which nothing was received, in the first super-frame. It takes all its memory; the only
-    /// error is
-    /// want of it.
+    /// The meter of a stream of which nothing was received, in the first super-frame. It takes all its memory; the
+    /// only error is want of it.
     pub fn new(alloc: Global, settings: &Settings, stream: Stream) -> Result<Self, AllocError>
         ensures ready { IfOk result (λ x. IsReady x) }
         ensures steps { IfOk result (λ x. x.branch.decoder.steps ≡ 0) }
@@ -136,9 +135,8 @@ impl StreamMeter {
         self.reports.count(reports.len() as u64, within);
     }
 
-    /// Gives on what the decoder gave in a symbol, which is of the current super-frame or after it: hands on the bits,
-    /// decodes the
-    /// words that are then whole, and counts the reports.
+    /// Gives on what the decoder gave in a symbol, which is of the current super-frame or after it: hands on the
+    /// bits, decodes the words that are then whole, and counts the reports.
     ///
     /// The decoder has run the symbol. With its bits at most 127,008 wait.
     pub fn deliver<R: Threads + Sync, G: Gate>(

@@ -21,8 +21,7 @@ meter_of x Hp = x.hp
 meter_of x Lp = x.lp
 
 -- the settings, the bytes of the unfinished symbol, the number of whole symbols, the meters, the reader of TPS words,
--- and whether the
--- measurer has ended
+-- and whether the measurer has ended
 pub record MeasurerState : Type 0 where
   pub settings : Settings
   pub rest : List ℕ

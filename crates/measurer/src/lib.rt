@@ -1,8 +1,8 @@
 //! The measurer: from bytes of cells, cut anywhere, to the lines of a measurement (ETSI TR 101 290, 9.15 to 9.18).
 //!
-//! [`Measurer`] takes bytes of cells in pieces of any length. It compares each received symbol with the cells that the
-//! decided bits
-//! stand for, as soon as they are known, and gives the lines of a super-frame with the symbol that defines them.
+//! [`Measurer`] takes bytes of cells in pieces of any length. It compares each received symbol with the cells that
+//! the decided bits stand for, as soon as they are known, and gives the lines of a super-frame with the symbol that
+//! defines them.
 #![tactic(auto)]
 
 mod current;

@@ -30,8 +30,7 @@ const SYMBOLS: u64 = 272;
 const LATER: u64 = 3;
 
 /// Measures the cells of a transmission, as bytes that are cut anywhere, and gives the lines of each super-frame with
-/// the symbol that
-/// defines them.
+/// the symbol that defines them.
 ///
 /// It stands for the bytes that it has had and for the lines that it gave. No call but `new` takes memory or is
 /// refused.

@@ -17,8 +17,7 @@ use Rattle.symbol_parameters.specs.Laws.{ParametersChange, WordsGrow, WordsOfOne
 use Rattle.transmission.proofs.Rounding.{enough, least}
 use Rattle.modulator.specs.Carrying.{AreLeastFor}
 
--- ---- lists whose numbers rise
--- the first i entries of a list have begun by a super-frame, the others begin after it
+-- ---- lists whose numbers rise the first i entries of a list have begun by a super-frame, the others begin after it
 pub record IsBetween (l : List Entry) (i start : ℕ) : Type 0 where
   pub begun : (k : ℕ) → k < i → (get_or l k filler).after ≤ start
   pub later : (k : ℕ) → i ≤ k → k < length l → start < (get_or l k filler).after
@@ -89,8 +88,7 @@ stays_between s i start j is from before = same_entry s j start each
         go (inl m) = let b = is.begun k m in le-leb _ j (omega (arith, b, from)) ∙ sym (le-leb _ start b)
         go (inr m) = not_yet _ j (before k m less) ∙ sym (not_yet _ start (is.later k m less))
 
--- ---- words between changes
--- the super-frames from `start` on, `span` of them, have as many words each
+-- ---- words between changes the super-frames from `start` on, `span` of them, have as many words each
 abbrev pub AreAlike : Settings → Stream → ℕ → ℕ → ℕ → Type 0
 AreAlike s σ start words span = (j : ℕ) → j < span → words_in s σ (start + j) ≡ words
 
@@ -171,8 +169,7 @@ module _ (grow : WordsGrow) (more : WordsOfOneMore) (s : Settings) (σ : Stream)
       go (inl m) = let up = grow s σ n start (omega (arith, m)) in omega (arith, up, h, few)
       go (inr m) = late (n - start) (omega (arith, m))
 
--- ---- the calls of the loop
--- from the last change on all super-frames are alike
+-- ---- the calls of the loop from the last change on all super-frames are alike
 pub alike_later : ParametersChange → (s : Settings) (σ : Stream) (i start words : ℕ) → IsBetween (entries_of s.plan) i start → length (entries_of s.plan) ≤ i
     → words ≡ words_per_super_frame (with_entry s (entry s start)) σ → (span : ℕ) → AreAlike s σ start words span
 alike_later change s σ i start words is all are span = alike_between change s σ i start span words is (λ k m less. absurd (omega (arith, m, less, all))) are

@@ -32,8 +32,7 @@ use Rattle.modulator.specs.declared.want.Want.{Want}
 use Rattle.modulator.specs.declared.want.Want.TheVariants as wants
 use Rattle.modulator.proofs.Feeding.{holds_none, bits_next, holds_rest, holds_other, register_other, register_none}
 
--- ---- packets and bits
--- the packets in so many bits
+-- ---- packets and bits the packets in so many bits
 whole_put : (a w : ℕ) → (a + w) % 1632 ≡ 0 → 1632 * ((a + w) / 1632) ≡ a + w
 whole_put a w e = omega (arith, e)
 
@@ -171,8 +170,7 @@ other_streams alike t inputs other h same = record {
     at Lp = register_at (paths_of other Lp) (steps_before t.settings Lp t.made) t.parts.inner.lp
         (register_other alike (inputs Lp) (other Lp) t.lp (steps_before t.settings Lp t.made) t.parts.inner.lp h.lp.within (same Lp) (register_of_path (paths_of inputs Lp) (steps_before t.settings Lp t.made) t.parts.inner.lp (h.inner Lp)))
 
--- ---- a packet more
--- a modulator after a packet
+-- ---- a packet more a modulator after a packet
 pub record WasPut (old new : Transmitter) (packet : List ℕ) : Type 0 where
   pub counts : HasOneMore (wanted old) old new
   pub put : (inputs : Inputs) → HasPut old inputs → IsNext old inputs packet → HasPut new inputs

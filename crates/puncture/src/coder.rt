@@ -123,8 +123,7 @@ impl PuncturedEncoder {
     }
 
     /// Codes a byte as [`PuncturedEncoder::push_byte`] does, and appends what is sent of it to few bits in a word.
-    /// There
-    /// must be room for sixteen.
+    /// There must be room for sixteen.
     pub fn push_byte_in_word(&mut self, byte: u8, to: &mut BitWord)
         requires room { length to.old + 16 ≤ 32 }
         ensures few { length to.new ≤ length to.old + 16 }

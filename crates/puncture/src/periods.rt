@@ -9,8 +9,8 @@ use crate::eight_steps::{Bits, punctured};
 use mode_set::Rate;
 
 // For each place of a rate's period and each byte: what is sent of eight steps from there on whose X is the byte and
-// whose
-// Y is zeros, and the other way round; and for each place how many bits these are, and the place after the steps.
+// whose Y is zeros, and the other way round; and for each place how many bits these are, and the place after the
+// steps.
 #[derive(Debug, Drop)]
 pub(crate) struct PeriodTable {
     pub words: [(u16, u16); 1792],

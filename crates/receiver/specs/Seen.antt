@@ -14,9 +14,8 @@ pub record StreamState : Type 0 where
   pub outer : Receiver
   pub counts : StreamCounts
 
--- the settings, the bytes of the unfinished symbol, the number of whole symbols, both streams, the reader of TPS words,
--- and whether
--- the receiver has ended
+-- the settings, the bytes of the unfinished symbol, the number of whole symbols, both streams, the reader of TPS
+-- words, and whether the receiver has ended
 pub record ReceiverState : Type 0 where
   pub settings : Settings
   pub rest : List ℕ

@@ -57,8 +57,7 @@ words_more s σ n = let e = words_of_one_more s σ n in omega (arith, e)
 pub words_grow : WordsGrow
 words_grow s σ m n l = grows (words_before s σ) (words_more s σ) m n l
 
--- ---- super-frames
--- the first k symbols of super-frame j have the settings of that super-frame
+-- ---- super-frames the first k symbols of super-frame j have the settings of that super-frame
 within_frame : (s : Settings) (σ : Stream) (j k : ℕ) → k ≤ 272 → steps_before s σ (272 * j + k) ≡ steps_before s σ (272 * j) + k * need (settings_in s j) σ
 within_frame s σ j zero l = let e : 272 * j + 0 ≡ 272 * j = omega arith in let f = ap (steps_before s σ) e in omega (arith, f)
 within_frame s σ j (suc k) l =

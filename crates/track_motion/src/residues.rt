@@ -27,8 +27,7 @@ pub struct Residues {
 }
 
 /// Point `j` of the symbol at a place around symbol `m`, turned to the phase of symbol `m`, times 2^14. The file has
-/// the
-/// place.
+/// the place.
 pub fn turned_value<M: Carriers>(
     window: &PilotWindow<M>,
     m: u64,

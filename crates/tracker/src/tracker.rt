@@ -141,8 +141,7 @@ impl<M: Carriers> Tracker<M> {
     }
 
     /// Appends the next of the symbols that were not given yet, and answers true, or false if none is left. The file
-    /// has
-    /// ended. The spare of `to` has room for a symbol.
+    /// has ended. The spare of `to` has room for a symbol.
     pub fn rest(&mut self, to: &mut Vec<u8>) -> bool
         requires ended { self.old.ended ≡ true }
         requires room { vec_len to.old + 5 * M.K ≤ vec_capacity to.old }

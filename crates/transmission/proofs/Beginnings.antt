@@ -282,8 +282,7 @@ same_coded_bit steps s σ d path other l same =
     below_six : (i a b : ℕ) → a ≡ b → i < a + 6 → i < b + 6
     below_six i a b e k = omega (arith, e, k)
 
--- ---- symbols
--- what the outer coding of packets gives depends on these packets alone
+-- ---- symbols what the outer coding of packets gives depends on these packets alone
 abbrev pub SameBytes : Type 0
 SameBytes = (packets other : List (List ℕ)) (n : ℕ) → ((i : ℕ) → i < n → packet_at packets i ≡ packet_at other i) → (p : ℕ) → p < 204 * n → outer_byte packets p ≡ outer_byte other p
 

@@ -81,8 +81,8 @@ words_later more s σ (suc k) =
     let product : suc k * last_words s σ ≡ k * last_words s σ + last_words s σ = omega arith in
     omega (arith, e, one, rest, product)
 
--- ---- what suffices at all suffices early
--- words that come at a steady rate, or do not come: so many super-frames give so many words, or no number does
+-- ---- what suffices at all suffices early words that come at a steady rate, or do not come: so many super-frames
+-- give so many words, or no number does
 enough_soon : (base rate k count most : ℕ) → count ≤ base + k * rate → count ≤ most → count ≤ base + most * rate
 enough_soon base zero k count most l m = omega (arith, l)
 enough_soon base (suc rate) k count most l m =

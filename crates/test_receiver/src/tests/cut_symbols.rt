@@ -121,8 +121,7 @@ fn feed_all<M: Carriers, R: Threads + Sync, G: Gate>(
 }
 
 /// What came through a gate: the null packets before the end and in all, and how often the gate was entered for an
-/// outer
-/// word and for an inner decoder.
+/// outer word and for an inner decoder.
 type Gated = (usize, usize, u64, u64);
 
 // A new receiver that is fed through a gate which counts.
@@ -169,11 +168,9 @@ fn passed<R: Threads + Sync>(
     gated::<Mode2k, R>(rt, alloc, &by_workers(workers), bytes, size)
 }
 
-// Whatever the workers and the pieces are, the gate is entered once for each outer word before the end, and by no inner
-// decoder,
-// since there is one stream. A frame of 68 symbols of 1,512 bits has 63 words, of which eleven are the start-up; the
-// last one
-// ends with it.
+// Whatever the workers and the pieces are, the gate is entered once for each outer word before the end, and by no
+// inner decoder, since there is one stream. A frame of 68 symbols of 1,512 bits has 63 words, of which eleven are the
+// start-up; the last one ends with it.
 #[test]
 fn words_pass_the_gate(rt: HostRuntime) -> Result<(), Fail> {
     let alloc = rt.alloc();
