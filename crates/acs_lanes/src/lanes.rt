@@ -89,7 +89,7 @@ pub(crate) fn pick(even: u32x16, even_step: u32x16, odd: u32x16, odd_step: u32x1
 }
 
 /// What comes of 32 states in a row, by the costs of their steps: the costs of 16 states below 32 and of the 16
-/// states that lie 32 above them, and behind each the word that says which of them came from the odd state.
+/// states that lie 32 above them, each followed by the word that says which of them came from the odd state.
 fn sixteen(old: &[u32], zero: u32x16, one: u32x16) -> (u32x16, u64, u32x16, u64)
     requires old { length old.now ≡ 32 }
     requires zero { length zero ≡ 16 }
@@ -174,8 +174,7 @@ pub(crate) fn step_all(cost: &mut [u32; 64], pair: CostPair) -> (u64, u64)
 }
 
 /// The same.
-// It is a call of its own, so that the words are computed where their vectors are, and not behind the branches of the
-// caller.
+// It is a call of its own, so that the words are computed next to their vectors and not after the caller's branches.
 #[inline(never)]
 fn step_lanes(cost: &mut [u32; 64], pair: CostPair) -> (u64, u64)
     requires fit { (j : ℕ) → j < 64 → slice_index cost.old j + 8190 < 2 ^ 32 }

@@ -4,8 +4,8 @@
 //! Many steps in a row keep the costs in lanes of 16 bits, all 64 in four vectors, which hold them since alive costs
 //! differ by at most 49,140: before each two steps that could leave 16 bits the least is taken from all of them.
 //!
-//! `LaneAcs` means what every step of `acs_plain` means. [`forward`] and [`backward`] take one step more of the least
-//! totals to and from each state, for whoever needs these themselves.
+//! `LaneAcs` keeps the contract of `acs_plain`. [`forward`] and [`backward`] extend the least totals to and from each
+//! state by one step, for callers that need the totals.
 #![tactic(auto)]
 
 mod cost_sums;

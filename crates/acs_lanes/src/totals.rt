@@ -7,7 +7,7 @@ use crate::lanes::{first_costs, four_costs, last_costs, pick, read, step_all, st
 use conv_code::CostPair;
 use std::simd::u32x16;
 
-/// Takes a step forward: from the least sums to each state before a step to those behind it.
+/// Takes a step forward: from the least sums to each state before a step to those after it.
 ///
 /// A state is the register of the inner code as a number below 64: the newest bit is bit 5, the oldest bit 0. State n
 /// is reached from the states `2 * (n % 32)` and the one after it, on the input that is its newest bit. Each sum must
@@ -55,8 +55,8 @@ fn store_all(sums: &mut [u32; 64], a: u32x16, b: u32x16, c: u32x16, d: u32x16)
     store(sums, 48, d);
 }
 
-/// Takes a step backward: from the least sums that paths cost from each state behind a step on to those from each state
-/// before it.
+/// Takes a step backward: from the least sums of the paths from each state after a step to those from each state before
+/// it.
 ///
 /// States `2 * k` and the one after it lead to state k on the input 0 and to state k + 32 on 1. Each sum must have
 /// room for the costs of a step, at most 8190 (EN 300 744, 4.3.3).

@@ -6,7 +6,7 @@ ghost use Rattle.acs_lanes.specs.Phases.{in_order, moved_by};
 use crate::fours::store;
 use std::simd::u64x4;
 
-/// Each word turned over, and the bits of a mask exchanged with those so many places above them.
+/// Each word turned over, and the bits of a mask exchanged with those `shifts` places above them.
 // Where they differ both are turned over again.
 #[inline(always)]
 fn moved(words: u64x4, shifts: u64x4, masks: u64x4) -> u64x4

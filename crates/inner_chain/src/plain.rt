@@ -49,7 +49,7 @@ impl<M: Carriers> InnerRx<M> {
     /// that is not sent. `entry` has the parameters of the symbol.
     ///
     /// `cells` are those of all carriers of the symbol, and `weights` theirs, each at most 15. `l` is below
-    /// 68, the stream exists in the symbol, and the spare of `to` has room for the pairs that `steps` tells.
+    /// 68, the stream exists in the symbol, and the spare of `to` has room for `steps` pairs.
     pub fn pairs(
         &mut self,
         entry: &Entry,

@@ -64,8 +64,8 @@ impl<M: Carriers> InnerRx<M> {
     /// there. What comes after them stays. The pairs are those that `pairs` appends, and the costs of the
     /// cells are found once for both streams. `entry` has the parameters of the symbol.
     ///
-    /// `cells` are those of all carriers of the symbol, and `weights` theirs, each at most 15. `steps` tells
-    /// how many pairs there are of a stream, and each slice has room for them.
+    /// `cells` are those of all carriers of the symbol, and `weights` theirs, each at most 15. `steps` is
+    /// the number of pairs of a stream, and each slice has room for them.
     pub fn symbol_pairs(
         &mut self,
         entry: &Entry,

@@ -101,8 +101,7 @@ impl<M: Carriers> InnerTx<M> {
     /// Takes the bits of the next symbol of each stream, and appends the symbol's labels in carrier
     /// order. `entry` has its parameters, and `odd` says whether its number is odd.
     ///
-    /// In each queue wait at least the bits that `need` tells, and the spare of `to` has room for a label a
-    /// payload cell.
+    /// At least `need` bits wait in each queue, and the spare of `to` has room for one label for each payload cell.
     ///
     /// Bit e of a label is y_e of EN 300 744, 4.3.5.
     pub fn labels(

@@ -17,7 +17,7 @@ use qam_map::Cell;
 // The payload carriers of the 2K mode are repeated after this number of carriers ..
 const PERIOD: usize = 1704;
 
-// .. which have so many of them.
+// .. which have this many of them.
 const PAYLOAD: usize = 1512;
 
 // How often a symbol has the carriers of the 2K mode.

@@ -1,8 +1,8 @@
 //! The outer coding of a stream, as it is sent and as it is received (EN 300 744, 4.3.1 and 4.3.2).
 //!
-//! [`OuterTx`] disperses packets, makes their codewords and interleaves these. [`OuterRx`] takes
-//! interleaved bytes, hands out each word after the eleven of the start-up as a [`WordSlot`], which
-//! is decoded by itself, and gives the packets of the words that are handed back in order.
+//! [`OuterTx`] disperses packets, encodes them and interleaves the codewords. [`OuterRx`] takes interleaved bytes and
+//! gives each word after the first eleven as a [`WordSlot`]. Slots are decoded independently and returned in order;
+//! `OuterRx` then gives their packets.
 #![tactic(auto)]
 
 pub mod laws;

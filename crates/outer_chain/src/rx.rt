@@ -247,10 +247,9 @@ impl OuterRx {
 
     /// Takes the next interleaved bytes, as [`OuterRx::put_byte`] does one by one, and appends the word
     /// that ends with the last of them, still to be decoded, exactly where a word after the eleven of the
-    /// start-up ends with it. There is at least one byte, none of them is after the end of the word that
-    /// is being received, which `to_end` tells, and there is room for one word; the capacity stays. Where
-    /// the bytes are those of packets with bursts, the word's nearest codeword is that of its packet, as
-    /// without them.
+    /// start-up ends with it. There is at least one byte and at most `to_end` bytes, those up to the end of
+    /// the word that is being received, and there is room for one word; the capacity stays. If the bytes are
+    /// those of packets with bursts, the word's nearest codeword is that of its packet, as without them.
     pub fn put_bytes(&mut self, bytes: &[u8], slots: &mut Vec<WordSlot>)
         requires some { 0 < length bytes.now }
         requires within { self.old.next % 204 + length bytes.now ≤ 204 }

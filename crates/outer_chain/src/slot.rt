@@ -16,7 +16,7 @@ pub struct WordSlot {
 }
 
 impl WordSlot {
-    /// Puts the nearest codeword in the place of the word, where there is one, and tells which.
+    /// Replaces the word by its nearest codeword, if there is one, and records the outcome.
     pub fn decode(&mut self)
         ensures decoded { Decoded self.old.word self.new.word self.new.outcome }
         ensures nearest { (near : List ℕ) → IsNear self.old.word (Some near) → self.new.word ≡ near }

@@ -1,4 +1,4 @@
-// Guesses at a corrected cell. Nothing is promised of them: whoever takes one tests it.
+// Guesses at a corrected cell. No clause depends on them: callers test each guess.
 ghost use Rattle.std.specs.Prelude.{◌^◌};
 ghost use Rattle.track_arithmetic.specs.Laws.{IsWithin};
 

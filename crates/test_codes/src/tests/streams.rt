@@ -199,7 +199,7 @@ fn bytes_put_as_taken(rt: HostRuntime) -> Result<(), Fail> {
     Ok(())
 }
 
-// How many of the next bytes to put at once: at most `most`, and none behind the end of their word.
+// How many of the next bytes to put at once: at most `most`, and none after the end of their word.
 fn run_of(rx: &OuterRx, left: usize, most: usize) -> usize
     requires left { 0 < left }
     requires most { 0 < most }

@@ -143,7 +143,7 @@ fn gated<M: Carriers, R: Threads + Sync>(
     Ok((before, before.saturating_add(last), outer, inner))
 }
 
-// The settings of the 2K mode with so many workers.
+// The settings of the 2K mode with this number of workers.
 fn by_workers(workers: u8) -> Settings
     requires some { 1 ≤ workers }
     requires few { workers ≤ 16 }
@@ -154,7 +154,7 @@ fn by_workers(workers: u8) -> Settings
     settings
 }
 
-// What comes through the gate by so many workers.
+// The output through the gate with this number of workers.
 fn passed<R: Threads + Sync>(
     rt: &R,
     alloc: Global,
