@@ -28,9 +28,9 @@ pub record IsInLanes (x y : ℕ) (c : CostPair) : Type 0 where
   pub x_is : (c.x0, c.x1) ≡ costs_in x
   pub y_is : (c.y0, c.y1) ≡ costs_in y
 
--- the pairs of two steps of the first n words of a run are written: the first word has the entries `here` at the one step
--- and `next` at the following one, and its pairs stand from number `first` on, those of each word `steps` after those
--- of the word before
+-- the pairs of two steps of the first n words of a run are written: the first word has the entries `here` at the one
+-- step and `next` at the following one, and its pairs stand from number `first` on, those of each word `steps` after
+-- those of the word before
 pub record WritesSteps (n : ℕ) (costs : List (ℕ × ℕ)) (here next : ℕ × ℕ) (steps first : ℕ) (old new : List CostPair)
     : Type 0 where
   pub long : length new ≡ length old

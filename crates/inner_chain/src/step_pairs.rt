@@ -30,7 +30,7 @@ fn four_lanes(costs: &[(u16, u16)], first: usize) -> u32x4
     ])
 }
 
-// The costs of four words in a row at two steps: the first word has the entries `here` at the one and `next` at the other.
+// The costs of four words in a row at two steps: the first word has the entries `here` at the one, `next` at the other.
 #[inline(always)]
 fn four_words(
     costs: &[(u16, u16)],
