@@ -9,6 +9,8 @@ mod CostEntering
 mod CostReading
 mod CellCosts
 mod Running
+mod StepLanes
+mod TwoSteps
 mod Listing
 mod Fronts
 mod Quads

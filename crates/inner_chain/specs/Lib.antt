@@ -4,3 +4,4 @@ pub mod CostTables
 pub mod PairLists
 pub mod Tables
 pub mod Fours
+pub mod StepPairs

@@ -17,6 +17,7 @@ mod plain;
 mod runs;
 mod rx;
 mod sent_parity;
+mod step_pairs;
 mod symbol;
 mod twos;
 mod tx;

@@ -6,6 +6,7 @@ ghost use Rattle.inner_chain.specs.CostTables.{AreInRuns, Follows, FollowAll, Is
 ghost use Rattle.inner_chain.specs.CostTables.{run_words};
 
 use crate::cost_entries::{BLOCK_WORDS, NO_ENTRY, RUN_WORDS};
+use crate::step_pairs::write_two_steps;
 use conv_code::CostPair;
 
 // The runs of a block.
@@ -97,17 +98,29 @@ fn write_run(
     ensures rest { (k : ℕ) → first + 20 * steps < k → drop k to.new ≡ drop k to.old }
     ensures long { length to.new ≡ length to.old }
 {
+    let mut at = first;
     for word in 0..RUN_WORDS {
-        to[first + word * steps] = CostPair {
+        to[at] = CostPair {
             x0: costs[x + word].0,
             x1: costs[x + word].1,
             y0: costs[y + word].0,
             y1: costs[y + word].1,
         };
+        at += steps;
     }
 }
 
+// The entries of the X and the Y of a step.
+fn entries_of(entries: &[u16], step: usize) -> (usize, usize)
+    requires { 2 * step + 1 < length entries.now }
+    ensures x { result.0 ≡ slice_index entries.now (2 * step) }
+    ensures y { result.1 ≡ slice_index entries.now (2 * step + 1) }
+{
+    (entries[2 * step] as usize, entries[2 * step + 1] as usize)
+}
+
 // Writes the pairs of all steps of the words of a run, whose first word has the entries from those of step `start` on.
+// They are written by two steps, and the last of an odd number by itself.
 fn write_words(
     costs: &[(u16, u16)],
     entries: &[u16],
@@ -128,9 +141,15 @@ fn write_words(
     ensures rest { (k : ℕ) → first + 21 * steps ≤ k → drop k to.new ≡ drop k to.old }
     ensures long { length to.new ≡ length to.old }
 {
-    for step in 0..steps {
-        let x = entries[2 * (start + step)] as usize;
-        let y = entries[2 * (start + step) + 1] as usize;
+    for half in 0..steps / 2 {
+        let step = 2 * half;
+        let here = entries_of(entries, start + step);
+        let next = entries_of(entries, start + step + 1);
+        write_two_steps(costs, here, next, steps, first + step, to);
+    }
+    if steps % 2 == 1 {
+        let step = steps - 1;
+        let (x, y) = entries_of(entries, start + step);
         write_run(costs, x, y, steps, first + step, to);
     }
 }
