@@ -35,7 +35,7 @@ fn all_follow(entries: &[u16], number: usize, first: usize, words: usize, at: us
     true
 }
 
-// Whether in a run of words of so many steps the entries of each follow those of the first one.
+// Whether in a run of words of this many steps the entries of each follow those of the first one.
 fn is_run(entries: &[u16], steps: usize, run: usize) -> bool
     requires steps { steps ≤ 65536 }
     requires run { run < 12 }
@@ -155,7 +155,7 @@ fn write_words(
 }
 
 // Writes a pair for each two entries over those from number `first` on, and keeps the others: for entries in runs of
-// words of so many steps.
+// words of this many steps.
 pub(crate) fn write_runs(
     costs: &[(u16, u16)],
     entries: &[u16],
