@@ -104,9 +104,9 @@ fn write_four(
     costs: &[(u16, u16)],
     here: (usize, usize),
     next: (usize, usize),
-    steps: usize,
-    first: usize,
     to: &mut [CostPair],
+    first: usize,
+    steps: usize,
 )
     requires costs { IsRoom costs.now }
     requires here { (here.0 + 4 ≤ length costs.now) × (here.1 + 4 ≤ length costs.now) }
@@ -176,9 +176,9 @@ pub(crate) fn write_two_steps(
             costs,
             (here.0 + word, here.1 + word),
             (next.0 + word, next.1 + word),
-            steps,
-            at,
             to,
+            at,
+            steps,
         );
         at += 4 * steps;
     }
