@@ -78,7 +78,8 @@ impl<'a, S: Station<'a>, M: Carriers> SymbolWork<'a, S> for AligningWork<M> {
 
     ghost able = { ⊤ };
 
-    ghost is_new = { λ x. (x.copying ≡ None) × IsSearching x.settings x.search.tuner x.search.symbol [] × (x.settings.mode ≡ M.MODE) };
+    ghost is_new = { λ x. (x.copying ≡ None) × IsSearching x.settings x.search.tuner x.search.symbol []
+        × (x.settings.mode ≡ M.MODE) };
 
     ghost stands = { λ x bytes given. (x.settings.mode ≡ M.MODE)
         × AligningStands (λ s. IsSearching s x.search.tuner x.search.symbol) x.settings x.copying bytes given };

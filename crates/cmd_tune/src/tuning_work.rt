@@ -117,8 +117,8 @@ impl<
 
     ghost able = { IsSync R.row };
 
-    ghost is_new = { λ x. (x.behind ≡ None) × IsSearching x.settings x.search.tuner x.search.symbol [] × (x.settings.mode ≡ M.MODE)
-        × (X.mode ≡ M.MODE) × IsFeeder X.state F.Fn x.feeder };
+    ghost is_new = { λ x. (x.behind ≡ None) × IsSearching x.settings x.search.tuner x.search.symbol []
+        × (x.settings.mode ≡ M.MODE) × (X.mode ≡ M.MODE) × IsFeeder X.state F.Fn x.feeder };
 
     ghost stands = { λ x bytes given. (x.settings.mode ≡ M.MODE) × (X.mode ≡ M.MODE) × IsFeeder X.state F.Fn x.feeder
         × TuningStands (λ s. IsSearching s x.search.tuner x.search.symbol) (λ b s two found bytes behind. IsBehindPlace
