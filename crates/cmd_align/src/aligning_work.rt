@@ -13,10 +13,10 @@ use cmd_base::{CellsRefusal, Refusal};
 use cmd_cells::{RunError, SymbolWork, write_some};
 use cmd_convert::line_of_counts;
 use frame_build::header;
-use mode_set::Settings;
+use mode_set::{Carriers, Settings};
 use station_core::{OutPort, Station};
 use tune_in::{Found, begin};
-use tune_search::{PlaceSearch, place_line};
+use tune_search::{Search, place_line};
 
 // Writes the lines of a place, one write for each.
 fn write_found<'a, S: Station<'a>>(found: &Found, station: &mut S) -> Result<(), RunError>
@@ -52,19 +52,20 @@ fn copying_from(found: &Found) -> Copying
 
 /// A search for a place, and the copying after it.
 #[derive(Drop)]
-pub(crate) struct AligningWork<T> {
+pub(crate) struct AligningWork<M: Carriers> {
     /// The settings of the command.
     pub settings: Settings,
     /// The search.
-    pub search: T,
+    pub search: Search<M>,
     /// The copying, once a place is found.
     pub copying: Option<Copying>,
 }
 
-impl<'a, S: Station<'a>, T: PlaceSearch> SymbolWork<'a, S> for AligningWork<T> {
+impl<'a, S: Station<'a>, M: Carriers> SymbolWork<'a, S> for AligningWork<M> {
     ghost use Rattle.std.specs.Prelude.{⊤, []};
     ghost use Rattle.mode_set.specs.declared.settings.Settings.{Settings};
     ghost use Rattle.cmd_convert.specs.Working.{writes_at};
+    ghost use Rattle.tune_search.specs.Searching.{IsSearching};
     ghost use Rattle.cmd_align.specs.Working.{AligningStands, aligning_work};
 
     ghost Setup = { Settings };
@@ -77,10 +78,11 @@ impl<'a, S: Station<'a>, T: PlaceSearch> SymbolWork<'a, S> for AligningWork<T> {
 
     ghost able = { ⊤ };
 
-    ghost is_new = { λ x. (x.copying ≡ None) × T.stands x.search x.settings [] × (x.settings.mode ≡ T.mode) };
+    ghost is_new = { λ x. (x.copying ≡ None) × IsSearching x.settings x.search.tuner x.search.symbol []
+        × (x.settings.mode ≡ M.MODE) };
 
-    ghost stands = { λ x bytes given. (x.settings.mode ≡ T.mode)
-        × AligningStands (T.stands x.search) x.settings x.copying bytes given };
+    ghost stands = { λ x bytes given. (x.settings.mode ≡ M.MODE)
+        × AligningStands (λ s. IsSearching s x.search.tuner x.search.symbol) x.settings x.copying bytes given };
 
     fn begin(&mut self, station: &mut S) -> Result<(), RunError> {
         write_some(OutPort::Cells, &header(self.settings.mode), station)

@@ -6,7 +6,6 @@
 #![tactic(auto)]
 
 mod command;
-mod mode_rescue;
 mod work;
 
 pub use command::rescue;

@@ -2,10 +2,10 @@
 ghost use Rattle.rescue.specs.ReportText.{closing_lines};
 ghost use Rattle.cmd_rescue.specs.Closing.{few_lines};
 
-use crate::mode_rescue::ModeRescue;
 use cmd_cells::{RunError, SymbolWork};
 use cmd_receive::{ClosingLines, write_lines, write_out};
-use rescue::{Counts, RxOut};
+use mode_set::Carriers;
+use rescue::{Counts, Rescue, RxOut};
 use rx_report::Line;
 use station_core::Station;
 use std::thread::Threads;
@@ -30,19 +30,19 @@ impl ClosingLines for LastCounts {
 /// A rescuing receiver whose packets and lines are written, with the output of its last call, the runtime whose threads
 /// it may use, and a flag for two streams.
 #[derive(Drop)]
-pub(crate) struct RescueWork<'r, R, T> {
+pub(crate) struct RescueWork<'r, R, M: Carriers> {
     /// The runtime.
     pub rt: &'r R,
     /// The receiver.
-    pub receiver: T,
+    pub receiver: Rescue<M>,
     /// The output of its last call.
     pub out: RxOut,
     /// Whether LP is written too.
     pub two: bool,
 }
 
-impl<'a, 'r, S: Station<'a>, R: Threads + Sync, T: ModeRescue> SymbolWork<'a, S>
-    for RescueWork<'r, R, T> {
+impl<'a, 'r, S: Station<'a>, R: Threads + Sync, M: Carriers> SymbolWork<'a, S>
+    for RescueWork<'r, R, M> {
     ghost use Rattle.std.specs.Prelude.{[], Bool};
     ghost use Rattle.std.specs.Thread.{IsSync};
     ghost use Rattle.mode_set.specs.declared.settings.Settings.{Settings};
@@ -54,7 +54,7 @@ impl<'a, 'r, S: Station<'a>, R: Threads + Sync, T: ModeRescue> SymbolWork<'a, S>
 
     ghost Setup = { Settings × Bool };
 
-    ghost setup = { λ x. ((T.state x.receiver).settings, x.two) };
+    ghost setup = { λ x. (x.receiver.settings, x.two) };
 
     ghost work = { λ p. rescue_work p.0 p.1 };
 
@@ -62,9 +62,9 @@ impl<'a, 'r, S: Station<'a>, R: Threads + Sync, T: ModeRescue> SymbolWork<'a, S>
 
     ghost able = { IsSync R.row };
 
-    ghost is_new = { λ x. StandsFor so_far (T.state x.receiver) [] nothing };
+    ghost is_new = { λ x. StandsFor so_far x.receiver [] nothing };
 
-    ghost stands = { λ x. RescueStands (StandsFor so_far (T.state x.receiver)) (T.state x.receiver).settings x.two };
+    ghost stands = { λ x. RescueStands (StandsFor so_far x.receiver) x.receiver.settings x.two };
 
     fn begin(&mut self, _station: &mut S) -> Result<(), RunError> {
         rescue::laws::nothing();

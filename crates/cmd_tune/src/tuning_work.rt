@@ -11,23 +11,23 @@ use crate::reception_at_place::Behind;
 use cmd_base::{CellsRefusal, Refusal};
 use cmd_cells::{RunError, SymbolWork, write_some};
 use cmd_receive::{ModeReceiver, ReceptionWork};
-use mode_set::Settings;
+use mode_set::{Carriers, Settings};
 use receiver::RxOut;
 use station_core::{OutPort, Station};
 use std::alloc::Global;
 use std::thread::Threads;
 use tune_in::{Found, announced, begin};
-use tune_search::{PlaceSearch, place_line};
+use tune_search::{Search, place_line};
 
 /// A search for a place, and the reception after it.
 #[derive(Drop)]
-pub(crate) struct TuningWork<'r, T, R, F, X> {
+pub(crate) struct TuningWork<'r, M: Carriers, R, F, X> {
     /// The settings of the command.
     pub settings: Settings,
     /// Whether LP is written too.
     pub two: bool,
     /// The search.
-    pub search: T,
+    pub search: Search<M>,
     /// The runtime whose threads the receiver may use.
     pub rt: &'r R,
     /// The function that feeds the receiver.
@@ -40,11 +40,11 @@ pub(crate) struct TuningWork<'r, T, R, F, X> {
 
 impl<
     'r,
-    T: PlaceSearch,
+    M: Carriers,
     R: Threads + Sync,
     F: Fn(&mut X, &[u8], &mut RxOut) -> usize + Copy,
     X: ModeReceiver + Drop,
-> TuningWork<'r, T, R, F, X> {
+> TuningWork<'r, M, R, F, X> {
     // At a place: checks its form, makes the receiver and writes the line.
     fn tune<'a, S: Station<'a>>(&mut self, found: &Found, station: &mut S) -> Result<(), RunError>
         requires feeder { IsFeeder X.state F.Fn self.old.feeder }
@@ -94,16 +94,17 @@ impl<
     'a,
     'r,
     S: Station<'a>,
-    T: PlaceSearch,
+    M: Carriers,
     R: Threads + Sync,
     F: Fn(&mut X, &[u8], &mut RxOut) -> usize + Copy,
     X: ModeReceiver + Drop,
-> SymbolWork<'a, S> for TuningWork<'r, T, R, F, X> {
+> SymbolWork<'a, S> for TuningWork<'r, M, R, F, X> {
     ghost use Rattle.std.specs.Prelude.{[], Bool};
     ghost use Rattle.mode_set.specs.declared.settings.Settings.{Settings};
     ghost use Rattle.std.specs.Thread.{IsSync};
     ghost use Rattle.cmd_receive.specs.Feeder.{FedStands, IsFeeder};
     ghost use Rattle.cmd_receive.specs.Working.{ReceiverStands, writes_at};
+    ghost use Rattle.tune_search.specs.Searching.{IsSearching};
     ghost use Rattle.cmd_tune.specs.Working.{IsBehindPlace, TuningStands, tuning_work};
 
     ghost Setup = { Settings × Bool };
@@ -116,11 +117,11 @@ impl<
 
     ghost able = { IsSync R.row };
 
-    ghost is_new = { λ x. (x.behind ≡ None) × T.stands x.search x.settings [] × (x.settings.mode ≡ T.mode)
-        × (X.mode ≡ T.mode) × IsFeeder X.state F.Fn x.feeder };
+    ghost is_new = { λ x. (x.behind ≡ None) × IsSearching x.settings x.search.tuner x.search.symbol []
+        × (x.settings.mode ≡ M.MODE) × (X.mode ≡ M.MODE) × IsFeeder X.state F.Fn x.feeder };
 
-    ghost stands = { λ x bytes given. (x.settings.mode ≡ T.mode) × (X.mode ≡ T.mode) × IsFeeder X.state F.Fn x.feeder
-        × TuningStands (T.stands x.search) (λ b s two found bytes behind. IsBehindPlace
+    ghost stands = { λ x bytes given. (x.settings.mode ≡ M.MODE) × (X.mode ≡ M.MODE) × IsFeeder X.state F.Fn x.feeder
+        × TuningStands (λ s. IsSearching s x.search.tuner x.search.symbol) (λ b s two found bytes behind. IsBehindPlace
         (X.state b.work.receiver).settings b.work.two b.skip
         (ReceiverStands (FedStands X.state F.Fn b.work.feeder b.work.receiver) (X.state b.work.receiver).settings
         b.work.two) s two found bytes behind) x.settings x.two x.behind bytes given };

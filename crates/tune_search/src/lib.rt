@@ -9,4 +9,4 @@ mod line;
 mod search;
 
 pub use line::place_line;
-pub use search::{PlaceSearch, Search};
+pub use search::Search;

@@ -1,6 +1,5 @@
 // The search for a place in the symbols of a file.
 ghost use Rattle.std.specs.Prelude.{◌≡◌, ◌≤◌, ◌<◌, ◌^◌, ◌++◌, ℕ, List, [], length, IfSome, IfOk};
-ghost use Rattle.mode_set.specs.declared.modes.Mode.{Mode};
 ghost use Rattle.mode_set.specs.declared.settings.Settings.{Settings};
 ghost use Rattle.reception.specs.Cells.{symbol_length, symbols, tail};
 ghost use Rattle.tps_word.specs.Tps.{IsValid};
@@ -11,27 +10,7 @@ use mode_set::Carriers;
 use std::alloc::{AllocError, Global};
 use tune_in::{Found, Tuner};
 
-/// A search for a place.
-///
-/// `stands settings bytes`: it has taken these bytes and found none. `mode` is the mode in which it searches.
-pub trait PlaceSearch {
-    ghost mode: { Mode };
-
-    ghost stands: { Self → Settings → List ℕ → Type 0 };
-
-    /// Takes the next symbol, or the part of it that ends the cells. Returns the least place exactly if this
-    /// symbol is the last of its frame.
-    fn take(&mut self, piece: &[u8]) -> Option<Found>
-        requires going { (s : Settings) × (bytes : List ℕ) × (s.mode ≡ mode) × stands self.old s bytes
-            × (symbols s bytes < 2 ^ 32) }
-        ensures takes { (s : Settings) (bytes : List ℕ) → s.mode ≡ mode → stands self.old s bytes → tail s bytes ≡ 0
-            → length piece.now ≤ symbol_length s
-            → Searched s (stands self.new s) (bytes ++ piece.now) result }
-        ensures place { IfSome result (λ found. found.place < 2 ^ 32) }
-        ensures word { IfSome result (λ found. IsValid found.word) };
-}
-
-/// A tuner, with room for a symbol.
+/// A search for a place: a tuner, with room for a symbol.
 #[derive(Drop)]
 pub struct Search<M: Carriers> {
     /// The tuner.
@@ -50,16 +29,19 @@ impl<M: Carriers> Search<M> {
         let tuner = Tuner::<M>::new(alloc)?;
         Ok(Search { tuner, symbol })
     }
-}
 
-impl<M: Carriers> PlaceSearch for Search<M> {
-    ghost use Rattle.tune_search.specs.Searching.{IsSearching};
-
-    ghost mode = { M.MODE };
-
-    ghost stands = { λ x s bytes. IsSearching s x.tuner x.symbol bytes };
-
-    fn take(&mut self, piece: &[u8]) -> Option<Found> {
+    /// Takes the next symbol, or the part of it that ends the cells. Returns the least place exactly if this
+    /// symbol is the last of its frame.
+    pub fn take(&mut self, piece: &[u8]) -> Option<Found>
+        requires going { (s : Settings) × (bytes : List ℕ) × (s.mode ≡ M.MODE)
+            × IsSearching s self.old.tuner self.old.symbol bytes × (symbols s bytes < 2 ^ 32) }
+        ensures takes { (s : Settings) (bytes : List ℕ) → s.mode ≡ M.MODE
+            → IsSearching s self.old.tuner self.old.symbol bytes → tail s bytes ≡ 0
+            → length piece.now ≤ symbol_length s
+            → Searched s (IsSearching s self.new.tuner self.new.symbol) (bytes ++ piece.now) result }
+        ensures place { IfSome result (λ found. found.place < 2 ^ 32) }
+        ensures word { IfSome result (λ found. IsValid found.word) }
+    {
         reception::laws::symbols();
         tune_in::more_bytes();
         tune_in::symbols_of_bytes();

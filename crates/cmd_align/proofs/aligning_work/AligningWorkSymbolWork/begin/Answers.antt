@@ -8,6 +8,7 @@ use Rattle.cmd_base.specs.declared.refusal.Refusal.{Refusal}
 use Rattle.cmd_cells.specs.Work.{none_written}
 use Rattle.cmd_convert.specs.Working.{written_at}
 use Rattle.cmd_convert.proofs.Calls.{header_follows, wrote_cells}
+use Rattle.tune_search.specs.Searching.{IsSearching}
 use Rattle.tune_search.proofs.Held.{no_place}
 use Rattle.cmd_align.specs.Working.{AligningStands, FirstGive, RefusesAligning}
 use Rattle.cmd_align.proofs.Places.{searching_stands}
@@ -21,9 +22,9 @@ returns-clause-begins g c =
     let m : Meaning = g.S.Station.meaning c.args.station.now in
     let m' : Meaning = g.S.Station.meaning c.write_some.new.station in
     let s : Settings = c.args.self.now.settings in
-    let searching = g.T.PlaceSearch.stands c.args.self.now.search in
+    let searching = λ (s : Settings). IsSearching s c.args.self.now.search.tuner c.args.self.now.search.symbol in
     let n = c.requires.new in
     let first : List ℕ = header s.mode ++ [] in
-    wrote_cells (λ given. (s.mode ≡ g.T.PlaceSearch.mode) × AligningStands searching s c.args.self.now.copying [] given) (FirstGive s []) (λ (r : Refusal). (left : List ℕ) → RefusesAligning s [] left none_written r) none_written (written_at first [])
+    wrote_cells (λ given. (s.mode ≡ g.M.Carriers.MODE) × AligningStands searching s c.args.self.now.copying [] given) (FirstGive s []) (λ (r : Refusal). (left : List ℕ) → RefusesAligning s [] left none_written r) none_written (written_at first [])
     (n.2, searching_stands searching s [] (written_at first []) c.args.self.now.copying n.0 n.1 (no_place s) (λ port. refl)) (None, no_place s, (λ port. refl)) m m' c.header.result
     (header_follows first c.header.result none_written (λ port. refl) (append-nil (header s.mode) ∙ sym c.header.ensures)) c.write_some.result c.write_some.ensures.writes

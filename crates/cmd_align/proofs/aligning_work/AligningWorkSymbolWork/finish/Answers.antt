@@ -7,6 +7,7 @@ use Rattle.cmd_cells.specs.Work.{Written}
 use Rattle.cmd_convert.specs.Conversion.{counts_line}
 use Rattle.cmd_convert.specs.Working.{written_at}
 use Rattle.cmd_convert.proofs.Calls.{wrote_line}
+use Rattle.tune_search.specs.Searching.{IsSearching}
 use Rattle.cmd_align.specs.Announcement.{found_lines}
 use Rattle.cmd_align.specs.Aligned.{aligned_file, closing_at}
 use Rattle.cmd_align.specs.Working.{AllGive, RefusesAligning}
@@ -19,7 +20,7 @@ returns-in-Some-clause-finishes g c = λ bytes before stood gives.
     let m : Meaning = g.S.Station.meaning c.args.station.now in
     let m' : Meaning = g.S.Station.meaning c.write_some.new.station in
     let s : Settings = c.args.self.now.settings in
-    let st = stands_copying (g.T.PlaceSearch.stands c.args.self.now.search) s bytes before c.args.self.now.copying c.in-Some.copying c.in-Some.is stood.1 in
+    let st = stands_copying (λ s. IsSearching s c.args.self.now.search.tuner c.args.self.now.search.symbol) s bytes before c.args.self.now.copying c.in-Some.copying c.in-Some.is stood.1 in
     let found = st.0 in
     let text : List ℕ = c.as_bytes.result.now in
     let is : text ≡ closing_at s bytes (Some found) = c.as_bytes.ensures.value ∙ c.as_str.ensures.value ∙ c.line_of_counts-line.ensures ∙ ap₂ counts_line st.2.copied st.2.after in
@@ -33,5 +34,5 @@ returns-in-Some-clause-finishes g c = λ bytes before stood gives.
 pub returns-in-None-clause-finishes : goal.returns-in-None-clause-finishes
 returns-in-None-clause-finishes g c = λ bytes before stood gives.
     let s : Settings = c.args.self.now.settings in
-    let st = stands_searching (g.T.PlaceSearch.stands c.args.self.now.search) s bytes before c.args.self.now.copying c.in-None.is stood.1 in
+    let st = stands_searching (λ s. IsSearching s c.args.self.now.search.tuner c.args.self.now.search.symbol) s bytes before c.args.self.now.copying c.in-None.is stood.1 in
     ((refl, refl, st.1, st.2), (λ t port. refl))

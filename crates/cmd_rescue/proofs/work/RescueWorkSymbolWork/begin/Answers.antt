@@ -11,7 +11,7 @@ use Rattle.cmd_rescue.proofs.work.RescueWorkSymbolWork.begin.Goals as goal
 pub returns-clause-begins : goal.returns-clause-begins
 returns-clause-begins g c =
     let m : Meaning = g.S.Station.meaning c.args._station.now in
-    let s : Settings = (g.T.ModeRescue.state c.args.self.now.receiver).settings in
+    let s : Settings = c.args.self.now.receiver.settings in
     let two : Bool = c.args.self.now.two in
     let live = c.nothing.ensures.so_far s in
     record {

@@ -35,7 +35,7 @@ returns-clause-finishes g c = λ bytes before stood gives.
     let m : Meaning = g.S.Station.meaning c.args.station.now in
     let m' : Meaning = g.S.Station.meaning c.write_out.new.station in
     let m'' : Meaning = g.S.Station.meaning c.write_lines.new.station in
-    let s : Settings = (g.T.ModeRescue.state c.args.self.now.receiver).settings in
+    let s : Settings = c.args.self.now.receiver.settings in
     let two : Bool = c.args.self.now.two in
     let out : Output = c.finish.new.out in
     let f = c.finish.ensures.finished bytes stood.0 stood.1 in
@@ -49,7 +49,7 @@ pub returns-in_err-write_out-clause-finishes : goal.returns-in_err-write_out-cla
 returns-in_err-write_out-clause-finishes g c = λ bytes before stood gives.
     let m : Meaning = g.S.Station.meaning c.args.station.now in
     let m' : Meaning = g.S.Station.meaning c.write_out.new.station in
-    let s : Settings = (g.T.ModeRescue.state c.args.self.now.receiver).settings in
+    let s : Settings = c.args.self.now.receiver.settings in
     let two : Bool = c.args.self.now.two in
     let out : Output = c.finish.new.out in
     let f = c.finish.ensures.finished bytes stood.0 stood.1 in

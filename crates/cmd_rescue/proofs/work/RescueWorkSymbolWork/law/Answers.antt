@@ -10,7 +10,7 @@ use Rattle.cmd_rescue.proofs.work.RescueWorkSymbolWork.law.Goals as goal
 pub returns : goal.returns
 returns g c = record {
   part = λ bytes more given within is.
-      let s : Settings = (g.T.ModeRescue.state c.args.self.now.receiver).settings in (
+      let s : Settings = c.args.self.now.receiver.settings in (
         is.0,
         part c.costs.ensures.same s bytes more is.0 within is.1,
         (λ port. is.2 port ∙ ap (λ (q : ℕ). written_at c.args.self.now.two is.0.packets (flat_map event_line (events s q is.0.reports)) port) (sym (c.symbols.ensures.same s bytes more within))),

@@ -29,10 +29,10 @@ pub returns-clause-takes : goal.returns-clause-takes
 returns-clause-takes g c = λ bytes before stood gives none fits.
     let m : Meaning = g.S.Station.meaning c.args.station.now in
     let m' : Meaning = g.S.Station.meaning c.write_out.new.station in
-    let s : Settings = (g.T.ModeRescue.state c.args.self.now.receiver).settings in
-    let s' : Settings = (g.T.ModeRescue.state c.feed.new.self).settings in
+    let s : Settings = c.args.self.now.receiver.settings in
+    let s' : Settings = c.feed.new.self.settings in
     let two : Bool = c.args.self.now.two in
-    let stands' = StandsFor so_far (g.T.ModeRescue.state c.feed.new.self) in
+    let stands' = StandsFor so_far c.feed.new.self in
     let out : Output = c.feed.new.out in
     let piece = c.args.piece.now in
     let takes = took s bytes piece stood.0 c.feed.result out stands' (omega (arith, none, fits)) (c.feed.ensures.fed bytes stood.0 stood.1) in

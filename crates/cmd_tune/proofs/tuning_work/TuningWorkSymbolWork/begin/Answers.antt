@@ -6,6 +6,7 @@ use Rattle.cmd_cells.specs.Work.{none_written}
 use Rattle.cmd_receive.specs.Feeder.{FedStands}
 use Rattle.cmd_receive.specs.Working.{ReceiverStands}
 use Rattle.cmd_tune.specs.Working.{IsBehindPlace}
+use Rattle.tune_search.specs.Searching.{IsSearching}
 use Rattle.tune_search.proofs.Held.{no_place}
 use Rattle.cmd_tune.proofs.Places.{searching_stands}
 use Rattle.cmd_tune.proofs.tuning_work.TuningWorkSymbolWork.begin.Goals as goal
@@ -18,7 +19,7 @@ returns-clause-begins g c =
     record {
       after = none_written;
       more = none_written;
-      is = ((n.2, n.3, n.4, searching_stands (g.T.PlaceSearch.stands c.args.self.now.search) (λ b s two found bytes behind. IsBehindPlace (g.X.ModeReceiver.state b.work.receiver).settings b.work.two b.skip (ReceiverStands (FedStands g.X.ModeReceiver.state g.F.Fn b.work.feeder b.work.receiver) (g.X.ModeReceiver.state b.work.receiver).settings b.work.two) s two found bytes behind) s c.args.self.now.two [] none_written c.args.self.now.behind n.0 n.1 (no_place s) (λ port. refl)), inl (no_place s, λ port. refl));
+      is = ((n.2, n.3, n.4, searching_stands (λ s. IsSearching s c.args.self.now.search.tuner c.args.self.now.search.symbol) (λ b s two found bytes behind. IsBehindPlace (g.X.ModeReceiver.state b.work.receiver).settings b.work.two b.skip (ReceiverStands (FedStands g.X.ModeReceiver.state g.F.Fn b.work.feeder b.work.receiver) (g.X.ModeReceiver.state b.work.receiver).settings b.work.two) s two found bytes behind) s c.args.self.now.two [] none_written c.args.self.now.behind n.0 n.1 (no_place s) (λ port. refl)), inl (no_place s, λ port. refl));
       follows = λ port. refl;
       written = λ t port. sym (append-nil (sink_at port m).written);
     }

@@ -9,7 +9,7 @@ use Rattle.cmd_receive.specs.Working.{LiveGives, ReceiverStands, writes_at}
 use Rattle.tune_in.specs.Announced.{IsAnnounced}
 use Rattle.tune_in.specs.OfBytes.{rest}
 use Rattle.tune_in.specs.declared.frame.Found.{Found}
-use Rattle.tune_search.specs.Searching.{IsAtPlace}
+use Rattle.tune_search.specs.Searching.{IsAtPlace, IsSearching}
 use Rattle.cmd_tune.specs.Tuned.{GivesLive, at_place}
 use Rattle.cmd_tune.specs.Working.{IsBehind, IsBehindPlace, RefusesTuning, TuningStands}
 use Rattle.cmd_tune.proofs.Calls.{does_behind, does_nothing}
@@ -24,7 +24,7 @@ take-requires g c κs =
     let b = c.in-Some.behind in
     let m : Meaning = g.S.Station.meaning c.args.station.now in
     let go = c.requires.going in
-    let st = stands_behind (g.T.PlaceSearch.stands c.args.self.now.search) (λ b s two found bytes behind. IsBehindPlace (g.X.ModeReceiver.state b.work.receiver).settings b.work.two b.skip (ReceiverStands (FedStands g.X.ModeReceiver.state g.F.Fn b.work.feeder b.work.receiver) (g.X.ModeReceiver.state b.work.receiver).settings b.work.two) s two found bytes behind) s two go.bytes go.given c.args.self.now.behind b c.in-Some.is go.stands.3 in
+    let st = stands_behind (λ s. IsSearching s c.args.self.now.search.tuner c.args.self.now.search.symbol) (λ b s two found bytes behind. IsBehindPlace (g.X.ModeReceiver.state b.work.receiver).settings b.work.two b.skip (ReceiverStands (FedStands g.X.ModeReceiver.state g.F.Fn b.work.feeder b.work.receiver) (g.X.ModeReceiver.state b.work.receiver).settings b.work.two) s two found bytes behind) s two go.bytes go.given c.args.self.now.behind b c.in-Some.is go.stands.3 in
     let p = st.4 in (
       record { shared = c.requires.able.shared },
       (
@@ -47,7 +47,7 @@ returns-in-Some-clause-takes g c = λ bytes before stood gives whole fits.
     let b' = c.take.new.self in
     let a : Settings = (g.X.ModeReceiver.state b.work.receiver).settings in
     let a' : Settings = (g.X.ModeReceiver.state b'.work.receiver).settings in
-    let st = stands_behind (g.T.PlaceSearch.stands c.args.self.now.search) (λ b s two found bytes behind. IsBehindPlace (g.X.ModeReceiver.state b.work.receiver).settings b.work.two b.skip (ReceiverStands (FedStands g.X.ModeReceiver.state g.F.Fn b.work.feeder b.work.receiver) (g.X.ModeReceiver.state b.work.receiver).settings b.work.two) s two found bytes behind) s two bytes before c.args.self.now.behind b c.in-Some.is stood.3 in
+    let st = stands_behind (λ s. IsSearching s c.args.self.now.search.tuner c.args.self.now.search.symbol) (λ b s two found bytes behind. IsBehindPlace (g.X.ModeReceiver.state b.work.receiver).settings b.work.two b.skip (ReceiverStands (FedStands g.X.ModeReceiver.state g.F.Fn b.work.feeder b.work.receiver) (g.X.ModeReceiver.state b.work.receiver).settings b.work.two) s two found bytes behind) s two bytes before c.args.self.now.behind b c.in-Some.is stood.3 in
     let p = st.4 in
     let is_in = c.more_bytes.ensures.stays s bytes piece st.0 st.2 in
     let standing' : List ℕ → Written → Type 0 = ReceiverStands (FedStands g.X.ModeReceiver.state g.F.Fn b'.work.feeder b'.work.receiver) a' b'.work.two in
@@ -74,7 +74,7 @@ take-requires-2 g c =
     let s : Settings = c.args.self.now.settings in
     let two : Bool = c.args.self.now.two in
     let go = c.requires.going in
-    let st = stands_searching (g.T.PlaceSearch.stands c.args.self.now.search) (λ b s two found bytes behind. IsBehindPlace (g.X.ModeReceiver.state b.work.receiver).settings b.work.two b.skip (ReceiverStands (FedStands g.X.ModeReceiver.state g.F.Fn b.work.feeder b.work.receiver) (g.X.ModeReceiver.state b.work.receiver).settings b.work.two) s two found bytes behind) s two go.bytes go.given c.args.self.now.behind c.in_default.is go.stands.3 in
+    let st = stands_searching (λ s. IsSearching s c.args.self.now.search.tuner c.args.self.now.search.symbol) (λ b s two found bytes behind. IsBehindPlace (g.X.ModeReceiver.state b.work.receiver).settings b.work.two b.skip (ReceiverStands (FedStands g.X.ModeReceiver.state g.F.Fn b.work.feeder b.work.receiver) (g.X.ModeReceiver.state b.work.receiver).settings b.work.two) s two found bytes behind) s two go.bytes go.given c.args.self.now.behind c.in_default.is go.stands.3 in
     record { going = (s, go.bytes, go.stands.0, st.0, go.few) }
 
 pub tune-requires : goal.tune-requires
@@ -88,10 +88,10 @@ returns-in-Some-take-clause-takes g c = λ bytes before stood gives whole fits.
     let two : Bool = c.args.self.now.two in
     let piece : List ℕ = c.args.piece.now in
     let found : Found = c.in-Some-take.found in
-    let searching = g.T.PlaceSearch.stands c.args.self.now.search in
+    let searching = λ (s : Settings). IsSearching s c.args.self.now.search.tuner c.args.self.now.search.symbol in
     let st = stands_searching searching (λ b s two found bytes behind. IsBehindPlace (g.X.ModeReceiver.state b.work.receiver).settings b.work.two b.skip (ReceiverStands (FedStands g.X.ModeReceiver.state g.F.Fn b.work.feeder b.work.receiver) (g.X.ModeReceiver.state b.work.receiver).settings b.work.two) s two found bytes behind) s two bytes before c.args.self.now.behind c.in_default.is stood.3 in
     let at : IsAtPlace s (bytes ++ piece) found = c.in-Some-take.ensures.takes s bytes stood.0 st.0 whole fits in
-    let search' = g.T.PlaceSearch.stands c.tune.new.self.search in
+    let search' = λ (s : Settings). IsSearching s c.tune.new.self.search.tuner c.tune.new.self.search.symbol in
     let behind' = c.tune.new.self.behind in
     tuned c.events.ensures.none c.nothing.ensures.live s two (bytes ++ piece) found at (λ b. (g.X.ModeReceiver.state b.work.receiver).settings) (λ b. FedStands g.X.ModeReceiver.state g.F.Fn b.work.feeder b.work.receiver) (λ b. b.skip) (λ b. b.work.two) behind' _ before m m' c.tune.result st.2
     (λ b is fit place. (
@@ -110,7 +110,7 @@ returns-in-None-clause-takes g c = λ bytes before stood gives whole fits.
     let s : Settings = c.args.self.now.settings in
     let two : Bool = c.args.self.now.two in
     let piece : List ℕ = c.args.piece.now in
-    let st = stands_searching (g.T.PlaceSearch.stands c.args.self.now.search) (λ b s two found bytes behind. IsBehindPlace (g.X.ModeReceiver.state b.work.receiver).settings b.work.two b.skip (ReceiverStands (FedStands g.X.ModeReceiver.state g.F.Fn b.work.feeder b.work.receiver) (g.X.ModeReceiver.state b.work.receiver).settings b.work.two) s two found bytes behind) s two bytes before c.args.self.now.behind c.in_default.is stood.3 in
+    let st = stands_searching (λ s. IsSearching s c.args.self.now.search.tuner c.args.self.now.search.symbol) (λ b s two found bytes behind. IsBehindPlace (g.X.ModeReceiver.state b.work.receiver).settings b.work.two b.skip (ReceiverStands (FedStands g.X.ModeReceiver.state g.F.Fn b.work.feeder b.work.receiver) (g.X.ModeReceiver.state b.work.receiver).settings b.work.two) s two found bytes behind) s two bytes before c.args.self.now.behind c.in_default.is stood.3 in
     let now = c.in-None.ensures.takes s bytes stood.0 st.0 whole fits in
     does_nothing _ (GivesLive s two (bytes ++ piece)) (λ (r : Refusal). Unit {0}) before m
-    (stood.0, stood.1, stood.2, searching_stands (g.T.PlaceSearch.stands c.take-2.new.self) (λ b s two found bytes behind. IsBehindPlace (g.X.ModeReceiver.state b.work.receiver).settings b.work.two b.skip (ReceiverStands (FedStands g.X.ModeReceiver.state g.F.Fn b.work.feeder b.work.receiver) (g.X.ModeReceiver.state b.work.receiver).settings b.work.two) s two found bytes behind) s two (bytes ++ piece) before c.args.self.now.behind c.in_default.is now.0 now.1 st.2) (inl (now.1, st.2))
+    (stood.0, stood.1, stood.2, searching_stands (λ s. IsSearching s c.take-2.new.self.tuner c.take-2.new.self.symbol) (λ b s two found bytes behind. IsBehindPlace (g.X.ModeReceiver.state b.work.receiver).settings b.work.two b.skip (ReceiverStands (FedStands g.X.ModeReceiver.state g.F.Fn b.work.feeder b.work.receiver) (g.X.ModeReceiver.state b.work.receiver).settings b.work.two) s two found bytes behind) s two (bytes ++ piece) before c.args.self.now.behind c.in_default.is now.0 now.1 st.2) (inl (now.1, st.2))

@@ -10,7 +10,7 @@ use Rattle.reception.specs.Laws.{EndsSymbol, IsWithin}
 use Rattle.tune_in.specs.OfBytes.{symbols_of}
 use Rattle.tune_in.specs.Tuning.{Answers, StandsFor}
 use Rattle.tune_search.proofs.Searched.{cells_are, not_whole, whole}
-use Rattle.tune_search.proofs.search.SearchPlaceSearch.take.Goals as goal
+use Rattle.tune_search.proofs.search.Search.take.Goals as goal
 
 pub returns-then-piece-K : goal.returns-then-piece-K
 returns-then-piece-K g c = record {
