@@ -445,13 +445,14 @@ fn agree_on<M: Carriers>(
     assert!(rt; lp.as_slice() == lp_at_once.as_slice());
 }
 
-// The pairs of both streams in one call are those of each by itself, step by step: one stream and two, at each rate.
+// The pairs of both streams in one call are those of each by itself, step by step: one stream and two, at each rate, with
+// four steps, three and one in a word, and with words that end within a step.
 #[test]
 fn both_streams_at_once(rt: HostRuntime) -> Result<(), Fail> {
     let alloc = rt.alloc();
-    let one = flat(Mode::M2k, Shape::Qam64, Rate::R5of6);
-    let two = two_streams(Shape::Qam64, Hierarchy::Alpha2, (Rate::R2of3, Rate::R7of8));
-    let three = two_streams(Shape::Qam16, Hierarchy::Alpha1, (Rate::R1of2, Rate::R3of4));
+    let one = flat(Mode::M2k, Shape::Qam64, Rate::R2of3);
+    let two = two_streams(Shape::Qam64, Hierarchy::Alpha2, (Rate::R5of6, Rate::R3of4));
+    let three = two_streams(Shape::Qam16, Hierarchy::Alpha1, (Rate::R1of2, Rate::R7of8));
     let mut rx = InnerRx::<Mode2k>::new(alloc, &one)?;
     for (l, bytes) in drawn_symbols(&rt, alloc, Mode::M2k).iter().enumerate() {
         let l = (l % 68) as u8;
