@@ -445,8 +445,8 @@ fn agree_on<M: Carriers>(
     assert!(rt; lp.as_slice() == lp_at_once.as_slice());
 }
 
-// The pairs of both streams in one call are those of each by itself, step by step: one stream and two, at each rate, with
-// four steps, three and one in a word, and with words that end within a step.
+// The pairs of both streams in one call are those of each by itself, step by step: one stream and two, at each rate,
+// with four steps, three and one in a word, and with words that end within a step.
 #[test]
 fn both_streams_at_once(rt: HostRuntime) -> Result<(), Fail> {
     let alloc = rt.alloc();
