@@ -6,9 +6,7 @@ use Rattle.cmd_base.specs.declared.refusal.Refusal.TheVariants.{Usage}
 use Rattle.cmd_base.proofs.Early.{unstarted_ended}
 use Rattle.cmd_base.proofs.Whole.{run_refused}
 use Rattle.dvbt_top.specs.declared.form.Form.{Form}
-use Rattle.dvbt_top.specs.Form.{order}
-use Rattle.dvbt_top.specs.Order.{Order}
-use Rattle.dvbt_top.specs.Commands.{command_for, no_command}
+use Rattle.dvbt_top.specs.Commands.{Order, command_for, no_command, order}
 use Rattle.dvbt_top.proofs.top.run_gated.Goals as goal
 
 pub returns-in-Some-Disperse : goal.returns-in-Some-Disperse
