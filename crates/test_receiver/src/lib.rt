@@ -10,4 +10,4 @@ mod receiving;
 mod tests;
 
 pub use cut::Cut;
-pub use receiving::{Given, Received, Reception};
+pub use receiving::{Received, Reception};

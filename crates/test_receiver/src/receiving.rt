@@ -10,22 +10,17 @@ use std::alloc::{AllocError, Global};
 use std::thread::Threads;
 use word_workers::Gate;
 
-/// The output of a call: packets of HP and of LP, and reports.
+/// The result of a reception.
 #[derive(Drop, PartialEq)]
-pub struct Given {
+pub struct Received {
     /// The packets of HP.
     pub hp: Vec<u8>,
     /// The packets of LP.
     pub lp: Vec<u8>,
     /// The reports.
     pub events: Vec<Event>,
-}
-
-/// The result of a reception.
-#[derive(Drop, PartialEq)]
-pub struct Received {
-    /// The output after each symbol, and at the end.
-    pub given: Vec<Given>,
+    /// The bytes of HP and of LP and the reports so far, after each symbol and at the end.
+    pub ends: Vec<(usize, usize, usize)>,
     /// Whether there was no output between two symbols.
     pub quiet: bool,
     /// The number of bytes taken.
@@ -86,13 +81,9 @@ impl<M: Carriers> Reception<M> {
         (self.receiver.symbols(), bytes, self.out.events().len())
     }
 
-    /// The output of the last call.
-    pub fn given(&self, alloc: Global) -> Result<Given, AllocError> {
-        Ok(Given {
-            hp: Vec::from_slice(alloc, self.out.hp())?,
-            lp: Vec::from_slice(alloc, self.out.lp())?,
-            events: Vec::from_slice(alloc, self.out.events())?,
-        })
+    /// The output of the last call: packets of HP and of LP, and reports.
+    pub fn out(&self) -> &RxOut {
+        &self.out
     }
 
     /// The counts so far, or at the end.
@@ -142,24 +133,30 @@ fn take_end<M: Carriers, R: Threads + Sync>(rt: &R, receiver: &mut Receiver<M>, 
     receiver.finish(rt, out);
 }
 
-// Records the output of the last call if a symbol was completed, otherwise whether there was none.
-fn note<M: Carriers>(
-    alloc: Global,
-    before: u64,
-    reception: &Reception<M>,
-    given: &mut Vec<Given>,
-    quiet: &mut bool,
-) -> Result<(), AllocError> {
-    let (symbols, bytes, reports) = reception.stands();
-    if symbols != before {
-        given.push(reception.given(alloc)?)?;
-    } else if bytes != 0 || reports != 0 {
-        *quiet = false;
-    }
-    Ok(())
-}
-
 impl Received {
+    // No output so far.
+    fn none(alloc: Global, counts: Counts) -> Received {
+        Received {
+            hp: Vec::new(alloc),
+            lp: Vec::new(alloc),
+            events: Vec::new(alloc),
+            ends: Vec::new(alloc),
+            quiet: true,
+            taken: 0,
+            counts,
+        }
+    }
+
+    // Appends the output of a call.
+    fn append(&mut self, out: &RxOut) -> Result<(), AllocError> {
+        self.hp.extend_from_slice(out.hp())?;
+        self.lp.extend_from_slice(out.lp())?;
+        self.events.extend_from_slice(out.events())?;
+        let end = (self.hp.len(), self.lp.len(), self.events.len());
+        self.ends.push(end)?;
+        Ok(())
+    }
+
     /// The reception of these bytes with these settings, whose mode is `M`.
     pub fn of<M: Carriers, R: Threads + Sync>(
         rt: &R,
@@ -171,49 +168,46 @@ impl Received {
         requires { settings.now.mode ≡ M.MODE }
     {
         let mut reception = Reception::<M>::begin(alloc, settings)?;
-        let mut given = Vec::new(alloc);
-        let mut quiet = true;
-        let taken = feed_all(
-            rt,
-            alloc,
-            &mut reception,
-            bytes,
-            cut,
-            &mut given,
-            &mut quiet,
-        )?;
-        reception.finish(rt);
-        given.push(reception.given(alloc)?)?;
-        let counts = reception.counts();
-        Ok(Received {
-            given,
-            quiet,
-            taken,
-            counts,
-        })
+        let mut received = Received::none(alloc, reception.counts());
+        let result = receive(rt, &mut reception, bytes, cut, &mut received);
+        result.map(|()| received)
     }
 }
 
-// Feeds the bytes piece by piece, records the output, and returns the number of bytes taken.
-fn feed_all<M: Carriers, R: Threads + Sync>(
+// Feeds the bytes piece by piece and ends the reception.
+fn receive<M: Carriers, R: Threads + Sync>(
     rt: &R,
-    alloc: Global,
     reception: &mut Reception<M>,
     bytes: &[u8],
     cut: Cut,
-    given: &mut Vec<Given>,
-    quiet: &mut bool,
-) -> Result<usize, AllocError> {
+    received: &mut Received,
+) -> Result<(), AllocError> {
     let mut load = Load::start(29);
-    let mut taken = 0usize;
     for _ in 0..bytes.len() {
-        let rest = &bytes[taken.min(bytes.len())..];
+        let rest = &bytes[received.taken.min(bytes.len())..];
         if !rest.is_empty() {
-            let before = reception.stands().0;
-            let count = reception.feed(rt, cut.piece(rest, &mut load));
-            taken = taken.saturating_add(count);
-            note(alloc, before, reception, given, quiet)?;
+            feed(rt, reception, cut.piece(rest, &mut load), received)?;
         }
     }
-    Ok(taken)
+    reception.finish(rt);
+    received.counts = reception.counts();
+    received.append(reception.out())
+}
+
+// Feeds a piece. The output is appended if a symbol was completed; otherwise there should be none.
+fn feed<M: Carriers, R: Threads + Sync>(
+    rt: &R,
+    reception: &mut Reception<M>,
+    piece: &[u8],
+    received: &mut Received,
+) -> Result<(), AllocError> {
+    let before = reception.stands().0;
+    let count = reception.feed(rt, piece);
+    received.taken = received.taken.saturating_add(count);
+    let (symbols, bytes, reports) = reception.stands();
+    if symbols != before {
+        return received.append(reception.out());
+    }
+    received.quiet = received.quiet && bytes == 0 && reports == 0;
+    Ok(())
 }

@@ -7,5 +7,4 @@ mod reports;
 mod rescued_pieces;
 mod sending;
 mod super_frames;
-mod trial_plans;
 mod trials;

@@ -20,26 +20,46 @@ fn lay(bytes: &mut [u8], first: usize, len: usize, mask: u8) {
     }
 }
 
-// The result for interleaved bytes: the packets, and the numbers of the words without a codeword close to them.
-fn back(alloc: Global, bytes: &[u8]) -> Result<(Vec<u8>, Vec<u64>), AllocError> {
-    let mut rx = OuterRx::new(alloc)?;
-    let mut packets = Vec::new(alloc);
-    let mut bad = Vec::new(alloc);
-    let mut number = 0u64;
-    for byte in bytes {
-        if let Some(slot) = rx.take_byte(*byte) {
-            let mut slot = slot;
-            slot.decode();
-            if matches!(slot.outcome, Outcome::Bad) {
-                bad.push(number)?;
-            }
-            number = number.saturating_add(1);
-            if let Some(packet) = rx.finish_word(&slot) {
-                packets.extend_from_slice(packet.bytes().as_slice())?;
-            }
+/// The result for interleaved bytes: the packets, and the numbers of the words without a codeword close to them.
+#[derive(Drop)]
+struct Found {
+    packets: Vec<u8>,
+    bad: Vec<u64>,
+}
+
+// Takes a byte. `number` is that of the next word.
+fn take(rx: &mut OuterRx, byte: u8, number: &mut u64, found: &mut Found) -> Result<(), AllocError> {
+    if let Some(slot) = rx.take_byte(byte) {
+        let mut slot = slot;
+        slot.decode();
+        if matches!(slot.outcome, Outcome::Bad) {
+            found.bad.push(*number)?;
+        }
+        *number = number.saturating_add(1);
+        if let Some(packet) = rx.finish_word(&slot) {
+            found.packets.extend_from_slice(packet.bytes().as_slice())?;
         }
     }
-    Ok((packets, bad))
+    Ok(())
+}
+
+fn take_all(rx: &mut OuterRx, bytes: &[u8], found: &mut Found) -> Result<(), AllocError> {
+    let mut number = 0u64;
+    for byte in bytes {
+        take(rx, *byte, &mut number, found)?;
+    }
+    Ok(())
+}
+
+// What comes back for interleaved bytes.
+fn back(alloc: Global, bytes: &[u8]) -> Result<Found, AllocError> {
+    let mut found = Found {
+        packets: Vec::new(alloc),
+        bad: Vec::new(alloc),
+    };
+    let mut rx = OuterRx::new(alloc)?;
+    let result = take_all(&mut rx, bytes, &mut found);
+    result.map(|()| found)
 }
 
 // The first packets.
@@ -73,12 +93,12 @@ fn comes_back(
 ) -> Result<bool, AllocError> {
     let mut received = sent.1.clone()?;
     lay(&mut received, first, len, 0xFF);
-    let (found, bad) = back(alloc, &received)?;
+    let found = back(alloc, &received)?;
     let mut expected = Vec::from_slice(alloc, front(rt, &sent.0, 19))?;
     for number in lost {
         lose(&mut expected, *number);
     }
-    Ok(bad.as_slice() == lost && found == expected)
+    Ok(found.bad.as_slice() == lost && found.packets == expected)
 }
 
 // Thirty packets, with a run of inverted interleaved bytes. Byte p belongs to word p / 204 less p mod 12, so 97 bytes
@@ -124,8 +144,9 @@ fn nothing_is_lost(rt: &impl Abort, alloc: Global, number: u32) -> Result<bool, 
     let (packets, bytes) = interleaved(alloc, number, 80)?;
     let mut received = bytes.clone()?;
     lay_drawn(&mut received, number);
-    let (found, bad) = back(alloc, &received)?;
-    Ok(received != bytes && bad.is_empty() && found.as_slice() == front(rt, &packets, 69))
+    let found = back(alloc, &received)?;
+    let same = found.packets.as_slice() == front(rt, &packets, 69);
+    Ok(received != bytes && found.bad.is_empty() && same)
 }
 
 // Random bursts, as close to each other as the law allows and from a random position on, change no packet.

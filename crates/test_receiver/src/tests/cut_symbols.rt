@@ -5,8 +5,9 @@ ghost use Rattle.mode_set.specs.declared.modes.Mode.{Mode};
 use super::sending::{
     SYMBOL, WIDE_SYMBOL, null_symbols, settings, wide_null_symbols, wide_settings,
 };
-use crate::{Cut, Given, Received, Reception};
+use crate::{Cut, Received, Reception};
 use mode_set::{Carriers, Mode2k, Mode8k, Settings, Start};
+use receiver::RxOut;
 use std::alloc::{AllocError, Global};
 use std::sync::atomic::{AtomicU64, Ordering};
 use std::test::Fail;
@@ -50,30 +51,24 @@ impl Gate for Counting {
     }
 }
 
-// How many null packets of HP these are; none if one is another packet or anything else was given.
-fn nulls(given: &Given) -> usize {
+// How many null packets these bytes are; none if one is another packet.
+fn nulls(packets: &[u8]) -> usize {
     let null = Packet::null();
-    for packet in given.hp.chunks(188) {
+    for packet in packets.chunks(188) {
         if packet != null.bytes().as_slice() {
             return 0;
         }
     }
-    if given.lp.is_empty() && given.events.is_empty() {
-        given.hp.len() / 188
+    packets.len() / 188
+}
+
+// How many null packets of HP a call gave; none if anything else was given.
+fn nulls_of(out: &RxOut) -> usize {
+    if out.lp().is_empty() && out.events().is_empty() {
+        nulls(out.hp())
     } else {
         0
     }
-}
-
-// The null packets of a reception, before its end and in all.
-fn packets(received: &Received) -> (usize, usize) {
-    let mut sum = 0usize;
-    let mut last = 0usize;
-    for given in &received.given {
-        last = nulls(given);
-        sum = sum.saturating_add(last);
-    }
-    (sum.saturating_sub(last), sum)
 }
 
 // Five symbols of 6,048 bits have 18 whole words, of which eleven are the start-up.
@@ -84,12 +79,17 @@ fn wide_symbols_cut_anywhere(rt: HostRuntime) -> Result<(), Fail> {
     let settings = wide_settings();
     let whole = Received::of::<Mode8k, _>(&rt, alloc, &settings, &bytes, Cut::Size(WIDE_SYMBOL))?;
     assert_eq!(rt;
-        (bytes.len(), whole.taken, whole.given.len()),
-        (170_425, 170_425, 6)
+        (bytes.len(), whole.taken, whole.ends.len(), whole.quiet),
+        (170_425, 170_425, 6, true)
     );
     assert_eq!(rt;
-        (packets(&whole).1, whole.counts.hp.clean, whole.quiet),
-        (7, 7, true)
+        (
+            nulls(&whole.hp),
+            whole.lp.len(),
+            whole.events.len(),
+            whole.counts.hp.clean
+        ),
+        (7, 0, 0, 7)
     );
     for size in [1, 3, 997, 34_084, 34_086, 100_000] {
         let other = Received::of::<Mode8k, _>(&rt, alloc, &settings, &bytes, Cut::Size(size))?;
@@ -101,12 +101,11 @@ fn wide_symbols_cut_anywhere(rt: HostRuntime) -> Result<(), Fail> {
 // Feeds the bytes in pieces of this size through the gate: the null packets so far.
 fn feed_all<M: Carriers, R: Threads + Sync, G: Gate>(
     rt: &R,
-    alloc: Global,
     gate: &G,
     reception: &mut Reception<M>,
     bytes: &[u8],
     size: usize,
-) -> Result<usize, AllocError> {
+) -> usize {
     let mut begin = 0usize;
     let mut sum = 0usize;
     for _ in 0..bytes.len() {
@@ -114,10 +113,10 @@ fn feed_all<M: Carriers, R: Threads + Sync, G: Gate>(
         if !rest.is_empty() {
             let count = reception.feed_gated(rt, gate, &rest[..size.min(rest.len())]);
             begin = begin.saturating_add(count);
-            sum = sum.saturating_add(nulls(&reception.given(alloc)?));
+            sum = sum.saturating_add(nulls_of(reception.out()));
         }
     }
-    Ok(sum)
+    sum
 }
 
 /// What came through a gate: the null packets before the end and in all, and how often the gate was entered for an
@@ -136,9 +135,9 @@ fn gated<M: Carriers, R: Threads + Sync>(
 {
     let gate = Counting::new();
     let mut reception = Reception::<M>::begin(alloc, settings)?;
-    let before = feed_all(rt, alloc, &gate, &mut reception, bytes, size)?;
+    let before = feed_all(rt, &gate, &mut reception, bytes, size);
     reception.finish(rt);
-    let last = nulls(&reception.given(alloc)?);
+    let last = nulls_of(reception.out());
     let (outer, inner) = gate.counts();
     Ok((before, before.saturating_add(last), outer, inner))
 }

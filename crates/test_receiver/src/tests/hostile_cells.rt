@@ -29,7 +29,7 @@ type Found = (u64, u64, u64, u64);
 
 /// The constellations with their hierarchies, and the result of the eight receptions of each: four kinds of cells, from
 /// the register zero and from any.
-const CASES: [(&str, Found); 9] = [
+static CASES: [(&str, Found); 9] = [
     (
         "constellation = \"qpsk\"\nrate_hp = \"7/8\"\n",
         (0, 0, 0, 0),
@@ -111,11 +111,9 @@ fn bytes_of(alloc: Global, cells: Cells) -> Result<Vec<u8>, AllocError> {
 
 // Adds the result of a reception.
 fn add(found: &mut Found, received: &Received) {
-    for given in &received.given {
-        for event in &given.events {
-            found.0 = found.0.wrapping_add(1);
-            found.1 = found.1.wrapping_add(event.at);
-        }
+    for event in &received.events {
+        found.0 = found.0.wrapping_add(1);
+        found.1 = found.1.wrapping_add(event.at);
     }
     add_words(found, received.counts.hp);
     if let Some(lp) = received.counts.lp {
@@ -134,7 +132,7 @@ fn is_whole(received: &Received, bytes: usize) -> bool {
     let counts = received.counts;
     received.quiet
         && received.taken == bytes
-        && (received.given.len(), counts.symbols, counts.tail) == (6, 5, TAIL as u32)
+        && (received.ends.len(), counts.symbols, counts.tail) == (6, 5, TAIL as u32)
 }
 
 // The reception of the bytes in these pieces.
@@ -203,9 +201,9 @@ fn found_by<R: Abort + Threads + Sync>(
 #[test]
 fn cells_that_no_modulator_sends(rt: HostRuntime) -> Result<(), Fail> {
     let alloc = rt.alloc();
-    for (lines, expected) in CASES {
+    for (lines, expected) in &CASES {
         let found = found_by(&rt, alloc, lines)?;
-        assert!(rt; found == expected, "{lines}");
+        assert!(rt; found == *expected, "{lines}");
     }
     Ok(())
 }

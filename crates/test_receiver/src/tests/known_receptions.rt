@@ -1,6 +1,6 @@
 // Receptions with known outcomes.
 use super::sending::{SYMBOL, null_symbols, settings};
-use crate::{Cut, Given, Received, Reception};
+use crate::{Cut, Received, Reception};
 use mode_set::{Mode2k, Start, Stream};
 use rx_report::{Counts, Event, StreamCounts};
 use std::alloc::{AllocError, Global};
@@ -24,27 +24,27 @@ fn received<R: Threads + Sync>(
     Received::of::<Mode2k, R>(rt, alloc, &settings(Start::Zero), bytes, Cut::Size(size))
 }
 
-// Whether these are whole null packets, and nothing else.
-fn are_nulls(given: &Given) -> bool {
+// Whether these are null packets.
+fn are_nulls(packets: &[u8]) -> bool {
     let null = Packet::null();
-    for packet in given.hp.chunks(188) {
+    for packet in packets.chunks(188) {
         if packet != null.bytes().as_slice() {
             return false;
         }
     }
-    given.lp.is_empty() && given.events.is_empty()
+    true
 }
 
 fn summary(received: &Received) -> Summary {
     let mut sum = 0usize;
     let mut last = 0usize;
-    let mut nulls = true;
-    for given in &received.given {
-        last = given.hp.len();
-        sum = sum.saturating_add(last);
-        nulls = nulls && are_nulls(given);
+    for (hp, _, _) in &received.ends {
+        last = hp.saturating_sub(sum);
+        sum = *hp;
     }
-    (received.given.len(), sum, last, nulls, received.quiet)
+    let nothing_else = received.lp.is_empty() && received.events.is_empty();
+    let nulls = are_nulls(&received.hp) && nothing_else;
+    (received.ends.len(), sum, last, nulls, received.quiet)
 }
 
 // Sixteen symbols, and three bytes.
@@ -114,13 +114,16 @@ fn lopsided_symbol(alloc: Global) -> Result<Vec<u8>, AllocError> {
     Ok(bytes)
 }
 
-// The state after one symbol from any register, after two of this kind and at the end; of the decoder of HP after two
-// and at the end; and the output for the second symbol.
+/// Two symbols from any register.
 #[derive(Drop)]
 struct Unmerged {
+    /// The state after each, and at the end.
     stands: [(u64, usize, usize); 3],
+    /// The decoder of HP after the second, and at the end.
     decoder: [(u32, bool); 2],
-    given: Given,
+    /// Whether the second gave one report of HP at step 2,049, and no other.
+    is_reported: bool,
+    /// The counts at the end.
     counts: Counts,
 }
 
@@ -135,12 +138,12 @@ fn receive_twice<R: Threads + Sync>(
     reception.feed(rt, bytes);
     let two = reception.stands();
     let going = reception.decoder();
-    let given = reception.given(alloc)?;
+    let is_reported = is_only_report(reception.out().events(), Stream::Hp, 2049);
     reception.finish(rt);
     Ok(Unmerged {
         stands: [one, two, reception.stands()],
         decoder: [going, reception.decoder()],
-        given,
+        is_reported,
         counts: reception.counts(),
     })
 }
@@ -163,9 +166,7 @@ fn unmerged_at_2049(rt: HostRuntime) -> Result<(), Fail> {
         (found.stands, found.decoder),
         ([(1, 0, 0), (2, 0, 1), (2, 0, 0)], [(0, false), (0, true)])
     );
-    assert!(rt;
-        is_only_report(&found.given.events, Stream::Hp, 2049) && found.counts == unmerged_counts()
-    );
+    assert!(rt; found.is_reported && found.counts == unmerged_counts());
     Ok(())
 }
 

@@ -2,62 +2,80 @@
 use mode_set::Stream;
 use rescue as rescued;
 use rescue_words::RescueCounts;
-use rx_report::{Counts, Event, Line, StreamCounts};
-use std::process::Abort;
-use std::rt::HostRuntime;
+use rx_report::{Counts, Event, StreamCounts};
+use std::alloc::{AllocError, Global};
+use std::test::Fail;
 
-fn is_text(rt: &impl Abort, line: Option<Line>, text: &str) {
-    match line {
-        Some(line) => assert_eq!(rt; line.as_str(), text),
-        None => assert!(rt; false),
+// The closing lines of a report.
+fn text_of(alloc: Global, counts: &Counts) -> Result<String, AllocError> {
+    let mut text = String::new(alloc);
+    for number in 0..6u8 {
+        if let Some(line) = counts.line(number) {
+            text.push_str(line.as_str())?;
+        }
     }
+    Ok(text)
 }
 
-#[test]
-fn lines_of_reports(rt: HostRuntime) {
-    let hp = StreamCounts {
-        words: 241,
-        clean: 230,
-        corrected: 7,
-        bad: 4,
-        unphased: 3,
-        unmerged: 1,
-    };
-    let mut counts = Counts {
+// Those of `rescue`.
+fn rescued_text_of(alloc: Global, counts: &rescued::Counts) -> Result<String, AllocError> {
+    let mut text = String::new(alloc);
+    for number in 0..6u8 {
+        if let Some(line) = counts.line(number) {
+            text.push_str(line.as_str())?;
+        }
+    }
+    Ok(text)
+}
+
+// The counts of a reception of one stream.
+fn counts() -> Counts {
+    Counts {
         symbols: 272,
         tail: 6819,
         tps_read: 3,
         tps_bad: 1,
-        hp,
+        hp: StreamCounts {
+            words: 241,
+            clean: 230,
+            corrected: 7,
+            bad: 4,
+            unphased: 3,
+            unmerged: 1,
+        },
         lp: None,
-    };
-    is_text(&rt, counts.line(0), "symbols 272 tail 6819\n");
-    is_text(&rt, counts.line(1), "tps read 3 bad 1\n");
-    is_text(
-        &rt,
-        counts.line(2),
-        "hp words 241 clean 230 corrected 7 bad 4 unphased 3 unmerged 1\n",
-    );
-    assert!(&rt; counts.line(3).is_none());
+    }
+}
+
+const LINES: &str =
+    "symbols 272 tail 6819\ntps read 3 bad 1\nhp words 241 clean 230 corrected 7 bad 4 unphased 3 unmerged 1\n";
+
+const LINES_OF_TWO: &str =
+    "symbols 272 tail 6819\ntps read 3 bad 1\nhp words 241 clean 230 corrected 7 bad 4 unphased 3 unmerged 1\nlp words 0 clean 0 corrected 0 bad 0 unphased 0 unmerged 0\n";
+
+#[test]
+fn lines_of_reports(rt: HostRuntime) -> Result<(), Fail> {
+    let mut counts = counts();
+    assert_eq!(rt; text_of(rt.alloc(), &counts)?.as_str(), LINES);
     counts.lp = Some(StreamCounts::default());
-    is_text(
-        &rt,
-        counts.line(3),
-        "lp words 0 clean 0 corrected 0 bad 0 unphased 0 unmerged 0\n",
-    );
-    assert!(&rt; counts.line(4).is_none());
+    assert_eq!(rt; text_of(rt.alloc(), &counts)?.as_str(), LINES_OF_TWO);
+    Ok(())
+}
+
+#[test]
+fn line_of_an_event(rt: HostRuntime) {
     let event = Event {
         stream: Stream::Lp,
         at: u64::MAX,
     };
-    assert_eq!(&rt;
+    assert_eq!(rt;
         event.line().as_str(),
         "lp unmerged at 18446744073709551615\n"
     );
 }
 
-#[test]
-fn lines_of_rescued_words(rt: HostRuntime) {
+// The counts of a reception of one stream by `rescue`.
+fn rescued_counts() -> rescued::Counts {
     let words = RescueCounts {
         words: 241,
         clean: 201,
@@ -66,25 +84,28 @@ fn lines_of_rescued_words(rt: HostRuntime) {
         bad: 15,
         unphased: 3,
     };
-    let hp = rescued::StreamCounts { words, unmerged: 1 };
-    let mut counts = rescued::Counts {
+    rescued::Counts {
         symbols: 272,
         tail: 6819,
-        hp,
+        hp: rescued::StreamCounts { words, unmerged: 1 },
         lp: None,
-    };
-    is_text(&rt, counts.line(0), "symbols 272 tail 6819\n");
-    is_text(
-        &rt,
-        counts.line(1),
-        "hp words 241 clean 201 corrected 20 rescued 5 bad 15 unphased 3 unmerged 1\n",
-    );
-    assert!(&rt; counts.line(2).is_none());
+    }
+}
+
+const RESCUED: &str =
+    "symbols 272 tail 6819\nhp words 241 clean 201 corrected 20 rescued 5 bad 15 unphased 3 unmerged 1\n";
+
+const RESCUED_OF_TWO: &str =
+    "symbols 272 tail 6819\nhp words 241 clean 201 corrected 20 rescued 5 bad 15 unphased 3 unmerged 1\nlp words 0 clean 0 corrected 0 rescued 0 bad 0 unphased 0 unmerged 0\n";
+
+#[test]
+fn lines_of_rescued_words(rt: HostRuntime) -> Result<(), Fail> {
+    let mut counts = rescued_counts();
+    assert_eq!(rt; rescued_text_of(rt.alloc(), &counts)?.as_str(), RESCUED);
     counts.lp = Some(rescued::StreamCounts::default());
-    is_text(
-        &rt,
-        counts.line(2),
-        "lp words 0 clean 0 corrected 0 rescued 0 bad 0 unphased 0 unmerged 0\n",
+    assert_eq!(rt;
+        rescued_text_of(rt.alloc(), &counts)?.as_str(),
+        RESCUED_OF_TWO
     );
-    assert!(&rt; counts.line(3).is_none());
+    Ok(())
 }

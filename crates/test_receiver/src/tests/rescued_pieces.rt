@@ -15,7 +15,7 @@ fn note(rt: &impl Abort, out: &RxOut, given: &mut Vec<u8>) -> Result<(), AllocEr
     Ok(())
 }
 
-// Feeds the bytes in pieces of this size, and ends; appends the packets.
+// Feeds the bytes of whole symbols in pieces of this size, and ends; appends the packets.
 fn feed_all<R: Abort + Threads + Sync>(
     rt: &R,
     rescue: &mut Rescue<Mode2k>,
@@ -24,6 +24,7 @@ fn feed_all<R: Abort + Threads + Sync>(
     size: usize,
     given: &mut Vec<u8>,
 ) -> Result<(), AllocError> {
+    assert!(rt; 0 < size);
     let mut begin = 0usize;
     for _ in 0..bytes.len() {
         if begin >= bytes.len() {
@@ -38,6 +39,7 @@ fn feed_all<R: Abort + Threads + Sync>(
     }
     assert!(rt; !rescue.ended());
     rescue.finish(out);
+    assert!(rt; rescue.ended() && rescue.symbols() == (bytes.len() / SYMBOL) as u64);
     note(rt, out, given)
 }
 
@@ -48,14 +50,11 @@ fn rescued<R: Abort + Threads + Sync>(
     bytes: &[u8],
     size: usize,
 ) -> Result<Vec<u8>, AllocError> {
-    assert!(rt; 0 < size);
-    let mut out = RxOut::new(alloc)?;
     let mut given = Vec::new(alloc);
-    // Constructed last: early returns would have to drop it, which is slow to prove.
+    let mut out = RxOut::new(alloc)?;
     let mut rescue = Rescue::<Mode2k>::new(alloc, &settings(Start::Zero))?;
-    feed_all(rt, &mut rescue, &mut out, bytes, size, &mut given)?;
-    assert!(rt; rescue.ended() && rescue.symbols() == (bytes.len() / SYMBOL) as u64);
-    Ok(given)
+    let result = feed_all(rt, &mut rescue, &mut out, bytes, size, &mut given);
+    result.map(|()| given)
 }
 
 // Sixteen symbols of 1,512 bits have 14 whole words, of which eleven are the start-up.

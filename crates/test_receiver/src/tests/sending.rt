@@ -27,9 +27,7 @@ pub(crate) fn settings(start: Start) -> Settings
 pub(crate) fn wide_settings() -> Settings
     ensures { result.mode ≡ Mode.M8k }
 {
-    let mut wide = settings(Start::Zero);
-    wide.mode = Mode::M8k;
-    wide
+    flat(Mode::M8k, Shape::Qpsk, Rate::R1of2)
 }
 
 // Puts a null packet where HP wants one.
