@@ -3,7 +3,7 @@ ghost use Rattle.std.specs.Prelude.{◌≡◌, ◌≤◌};
 ghost use Rattle.mode_set.specs.declared.modes.Mode.{Mode};
 
 use super::sending::{
-    SYMBOL, WIDE_SYMBOL, null_symbols, settings, wide_null_symbols, wide_settings,
+    SYMBOL, WIDE_SYMBOL, null_symbols, nulls, settings, wide_null_symbols, wide_settings,
 };
 use crate::{Cut, Received, Reception};
 use mode_set::{Carriers, Mode2k, Mode8k, Settings, Start};
@@ -12,7 +12,6 @@ use std::alloc::{AllocError, Global};
 use std::sync::atomic::{AtomicU64, Ordering};
 use std::test::Fail;
 use std::thread::Threads;
-use ts_packet::Packet;
 use word_workers::{Gate, Job};
 
 /// A gate that counts the pieces of each job.
@@ -49,17 +48,6 @@ impl Gate for Counting {
             Job::Inner => self.inner.fetch_add(1, Ordering::SeqCst),
         };
     }
-}
-
-// How many null packets these bytes are; none if one is another packet.
-fn nulls(packets: &[u8]) -> usize {
-    let null = Packet::null();
-    for packet in packets.chunks(188) {
-        if packet != null.bytes().as_slice() {
-            return 0;
-        }
-    }
-    packets.len() / 188
 }
 
 // How many null packets of HP a call gave; none if anything else was given.

@@ -1,5 +1,5 @@
 // Receptions with known outcomes.
-use super::sending::{SYMBOL, null_symbols, settings};
+use super::sending::{SYMBOL, null_symbols, nulls, settings};
 use crate::{Cut, Received, Reception};
 use mode_set::{Mode2k, Start, Stream};
 use rx_report::{Counts, Event, StreamCounts};
@@ -8,7 +8,6 @@ use std::process::Abort;
 use std::rt::HostRuntime;
 use std::test::Fail;
 use std::thread::Threads;
-use ts_packet::Packet;
 
 // The checks of a reception: how often there was output, the bytes of HP, those given at the end, whether all packets
 // are null packets with no packet of LP and no report, and whether there was no output between two symbols.
@@ -24,17 +23,6 @@ fn received<R: Threads + Sync>(
     Received::of::<Mode2k, R>(rt, alloc, &settings(Start::Zero), bytes, Cut::Size(size))
 }
 
-// Whether these are null packets.
-fn are_nulls(packets: &[u8]) -> bool {
-    let null = Packet::null();
-    for packet in packets.chunks(188) {
-        if packet != null.bytes().as_slice() {
-            return false;
-        }
-    }
-    true
-}
-
 fn summary(received: &Received) -> Summary {
     let mut sum = 0usize;
     let mut last = 0usize;
@@ -43,8 +31,14 @@ fn summary(received: &Received) -> Summary {
         sum = *hp;
     }
     let nothing_else = received.lp.is_empty() && received.events.is_empty();
-    let nulls = are_nulls(&received.hp) && nothing_else;
-    (received.ends.len(), sum, last, nulls, received.quiet)
+    let all_null = nulls(&received.hp) == received.hp.len() / 188;
+    (
+        received.ends.len(),
+        sum,
+        last,
+        all_null && nothing_else,
+        received.quiet,
+    )
 }
 
 // Sixteen symbols, and three bytes.

@@ -91,3 +91,14 @@ pub(crate) fn wide_null_symbols(
     push_symbols(rt, alloc, &mut tx, count, &mut bytes)?;
     Ok(bytes)
 }
+
+/// How many null packets these bytes are; none if one is another packet.
+pub(crate) fn nulls(packets: &[u8]) -> usize {
+    let null = Packet::null();
+    for packet in packets.chunks(188) {
+        if packet != null.bytes().as_slice() {
+            return 0;
+        }
+    }
+    packets.len() / 188
+}

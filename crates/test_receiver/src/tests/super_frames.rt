@@ -27,8 +27,8 @@ const GOES_AND_COMES: &str =
 const GOES: &str =
     "mode = \"2k\"\nconstellation = \"16qam\"\nhierarchy = \"4\"\nrate_hp = \"1/2\"\nrate_lp = \"3/4\"\nguard = \"1/32\"\nplan = [{ after = 1, constellation = \"qpsk\", rate_hp = \"1/2\" }]\n";
 
-// Settings, super-frames, packets of HP and of LP before the null packets, and the sum of all bytes: null packets alone;
-// HP and LP, which end within the super-frame; a stream that fills it; both modes; changing parameters.
+// Settings, super-frames, packets of HP and of LP before the null packets, and the sum of all bytes: null packets
+// alone; HP and LP, which end within the super-frame; a stream that fills it; both modes; changing parameters.
 static TRANSMISSIONS: [(&str, u16, u16, u16, u32); 6] = [
     (BASE, 1, 0, 0, 1647971123),
     (
@@ -56,8 +56,8 @@ static TRANSMISSIONS: [(&str, u16, u16, u16, u32); 6] = [
     (GOES_AND_COMES, 3, 500, 800, 1902376580),
 ];
 
-// Settings, packets of HP and of LP, and the super-frames that they need. Eleven words more than packets: 241 packets fill
-// a super-frame of 252 words, 242 need a second one.
+// Settings, packets of HP and of LP, and the super-frames that they need. Eleven words more than packets: 241 packets
+// fill a super-frame of 252 words, 242 need a second one.
 static LENGTHS: [(&str, u64, u64, Option<u64>); 16] = [
     (BASE, 0, 0, Some(1)),
     (BASE, 241, 0, Some(1)),
