@@ -1,28 +1,33 @@
 """The commands of dvbt and their forms. `texts` has what --help says of them."""
+from commands.form_lines import LINES
 
-# Each argument of a form is a kind and the name that the help gives it. Kinds: `settings`, inputs `hp`, `lp` and `cells`,
-# outputs `out` (of one stream), `out-cells`, `out-hp` and `out-lp`, and `number`.
-SETTINGS, HP, LP, CELLS = ("settings", "SETTINGS"), ("hp", "HP"), ("lp", "LP"), ("cells", "CELLS")
-TS, OUT, TO_CELLS = ("hp", "TS"), ("out", "OUT"), ("out-cells", "CELLS")
-TO_HP, TO_LP, NUMBER = ("out-hp", "HP"), ("out-lp", "LP"), ("number", "NUMBER")
-OLD, NEW = ("cells", "OLD"), ("out-cells", "NEW")
-IN, CORRECTED = ("cells", "IN"), ("out-cells", "OUT")
+# The kinds of files by their names in a form: those that are read, and those that are created.
+READ = {"HP": "hp", "LP": "lp", "TS": "hp", "CELLS": "cells", "OLD": "cells", "IN": "cells"}
+CREATED = {"HP": "out-hp", "LP": "out-lp", "CELLS": "out-cells", "NEW": "out-cells"}
+PACKETS = ("hp", "lp")
 
-FORMS = {
-    "modulate": [(SETTINGS, HP, TO_CELLS), (SETTINGS, HP, LP, TO_CELLS)],
-    "receive": [(SETTINGS, CELLS, TO_HP), (SETTINGS, CELLS, TO_HP, TO_LP)],
-    "rescue": [(SETTINGS, CELLS, TO_HP), (SETTINGS, CELLS, TO_HP, TO_LP)],
-    "tune": [(SETTINGS, CELLS, TO_HP), (SETTINGS, CELLS, TO_HP, TO_LP)],
-    "align": [(SETTINGS, IN, CORRECTED)],
-    "measure": [(SETTINGS, CELLS)],
-    "upgrade": [(SETTINGS, OLD, NEW)],
-    "equalise": [(SETTINGS, IN, CORRECTED)],
-    "track": [(SETTINGS, IN, CORRECTED)],
-    "trial": [(SETTINGS, NUMBER)],
-    "disperse": [(TS, OUT)],
-    "outer": [(TS, OUT)],
-    "inner": [(SETTINGS, TS, OUT)],
-}
+
+def kinds_of(names):
+    """The arguments of a form, each with its kind and name. If packets are read, cells are created, and the other way round;
+    OUT has what is read: packets or bytes of one stream (`out`), or cells."""
+    reads_packets = next((READ[name] for name in names if name in READ), None) in PACKETS
+    found = []
+    for name in names:
+        if name in ("SETTINGS", "NUMBER"):
+            kind = name.lower()
+        elif name == "OUT":
+            kind = "out" if reads_packets else "out-cells"
+        elif name in READ and (READ[name] in PACKETS) == reads_packets:
+            kind = READ[name]
+        else:
+            kind = CREATED[name]
+        found.append((kind, name))
+    return tuple(found)
+
+
+FORMS = {}
+for line in LINES:
+    FORMS.setdefault(line.split()[0], []).append(kinds_of(line.split()[1:]))
 
 # Options stand before the command.
 OPTIONS = {"-q": "quiet", "--quiet": "quiet", "--strict": "strict", "--json": "json"}

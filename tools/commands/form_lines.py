@@ -1,0 +1,20 @@
+"""The forms of the command line. Made by tools/pages of crates/dvbt_top/src/form.rt."""
+LINES = [
+    "modulate SETTINGS HP CELLS",
+    "modulate SETTINGS HP LP CELLS",
+    "receive SETTINGS CELLS HP",
+    "receive SETTINGS CELLS HP LP",
+    "rescue SETTINGS CELLS HP",
+    "rescue SETTINGS CELLS HP LP",
+    "tune SETTINGS CELLS HP",
+    "tune SETTINGS CELLS HP LP",
+    "align SETTINGS IN OUT",
+    "measure SETTINGS CELLS",
+    "upgrade SETTINGS OLD NEW",
+    "equalise SETTINGS IN OUT",
+    "track SETTINGS IN OUT",
+    "trial SETTINGS NUMBER",
+    "disperse TS OUT",
+    "outer TS OUT",
+    "inner SETTINGS TS OUT",
+]
