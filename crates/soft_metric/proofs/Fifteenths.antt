@@ -1,5 +1,5 @@
 -- Lane by lane: a fifteenth of a product.
-use Rattle.std.proofs.Common.{◌≡◌, ℕ, zero, suc, ◌*◌, ◌/◌, ◌%◌, ◌^◌, ◌<◌, ◌≤◌, List, [], ◌∷◌, length, map, replicate, refl, ap, ap₂, ◌∙◌, arith, w16, Fits, mod-eq_of_lt}
+use Rattle.std.proofs.Common.{◌≡◌, ℕ, zero, suc, ◌*◌, ◌/◌, ◌%◌, ◌^◌, ◌<◌, ◌≤◌, ◌==◌, true, not, List, [], ◌∷◌, length, map, replicate, refl, sym, ap, ap₂, ◌∙◌, arith, w16, Fits, mod-eq_of_lt}
 use Rattle.std.specs.Prelude.{slice_index}
 use Rattle.std.specs.Simd.Lanes.{zip2, Each1}
 use Rattle.std.proofs.lemmas.Nat.{mul-le}
@@ -53,3 +53,21 @@ weighed_at zs os ws vs us k ez eo ew l small within ev eu =
     let z = ap (λ q. slice_index q k) ev ∙ zip_at (λ c w. c * w % 2 ^ 16 / 15) zs ws k (omega (arith, l, ez)) (omega (arith, l, ew)) ∙ no_wrap _ _ small.0 within in
     let o = ap (λ q. slice_index q k) eu ∙ zip_at (λ c w. c * w % 2 ^ 16 / 15) os ws k (omega (arith, l, eo)) (omega (arith, l, ew)) ∙ no_wrap _ _ small.1 within in
     ap₂ two z o
+
+-- full weights change nothing
+whole_one : (c w : ℕ) → c ≤ 4095 → w ≡ 15 → c ≡ c * w % 2 ^ 16 / 15
+whole_one c w small full = let e : c ≡ c * 15 % 65536 / 15 = omega (arith, small) in e ∙ ap (λ (z : ℕ). c * z % 65536 / 15) (sym full)
+
+pub whole_are : (cs ws : List ℕ) (n : ℕ) → length cs ≡ n → length ws ≡ n → ((k : ℕ) → k < n → slice_index cs k ≤ 4095) → ((k : ℕ) → k < n → slice_index ws k ≡ 15)
+    → cs ≡ zip2 (λ c w. c * w % 2 ^ 16 / 15) cs ws
+whole_are [] ws n e f small full = refl
+whole_are (c ∷ cs) [] n e f small full = absurd (omega (arith, e, f))
+whole_are (c ∷ cs) (w ∷ ws) zero e f small full = absurd (omega (arith, e))
+whole_are (c ∷ cs) (w ∷ ws) (suc n) e f small full =
+    ap₂ (λ (z : ℕ) (zs : List ℕ). z ∷ zs) (whole_one c w (small 0 (omega arith)) (full 0 (omega arith)))
+    (whole_are cs ws n (omega (arith, e)) (omega (arith, f)) (λ k l. small (suc k) (omega (arith, l))) (λ k l. full (suc k) (omega (arith, l))))
+
+-- a constant that is not 0 is true
+pub is_set : (b : ℕ) → (b ≡ 0 → ⊥) → not (b == 0) ≡ true
+is_set zero other = absurd (other refl)
+is_set (suc b) other = grind arith

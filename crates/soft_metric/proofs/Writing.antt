@@ -7,6 +7,7 @@ use Rattle.std.proofs.Math.Nat.{mul-le-mul_right, min-le_left}
 use Rattle.mode_set.specs.Levels.{levels}
 use Rattle.mode_set.specs.StreamTable.{label_bits}
 use Rattle.mode_set.specs.declared.modes.Shape.{Shape}
+use Rattle.mode_set.specs.declared.modes.Shape.TheVariants.{Qpsk, Qam16, Qam64}
 use Rattle.mode_set.specs.declared.modes.Hierarchy.{Hierarchy}
 use Rattle.qam_map.specs.Points.{on_axis}
 use Rattle.qam_map.specs.declared.cell.Cell.{Cell}
@@ -23,6 +24,12 @@ costs_are_small s h cell e = (min-le_left _ _, min-le_left _ _)
 -- the numbers of place e end before those of the next one, and within the list
 pub plane_ends : (n e f q count : ℕ) → e < f → q + count ≤ n → e * n + q + count ≤ f * n
 plane_ends n e f q count l within = let r : (e + 1) * n ≤ f * n = mul-le-mul_right n (omega (arith, l)) in omega (arith, r, within)
+
+-- a label has 2, 4 or 6 bits
+pub label_is_even : (s : Shape) → (2 ≤ label_bits s) × ((label_bits s ≤ 6) × (label_bits s % 2 ≡ 0))
+label_is_even Qpsk = (omega arith, (omega arith, refl))
+label_is_even Qam16 = (omega arith, (omega arith, refl))
+label_is_even Qam64 = (omega arith, (omega arith, refl))
 
 module _ (s : Shape) (h : Hierarchy) (cells : List Cell) (weights : List ℕ) where
   pub nothing_written : (costs : List (ℕ × ℕ)) → WritesCosts s h cells weights costs costs
@@ -95,14 +102,20 @@ module _ (s : Shape) (h : Hierarchy) (cells : List Cell) (weights : List ℕ) wh
                 subst IsSmallPair (ap (pair_at new) place) (subst IsSmallPair (sym (p.here j d less)) (weighted_is_small (costs_at_place s h c e) (slice_index weights (q + j)) (costs_are_small s h c e) (p.light (q + j) (omega (arith, less, p.within)))))
             go (inr from) (inr past) = subst IsSmallPair (sym (p.above i past)) was
 
-    -- the places of one axis so far, and this one
-    pub side_more : (axis side : ℕ) → e ≡ 2 * axis + side → side < 2 → count ≡ 16 → ((f k : ℕ) → f < 2 * axis → f % 2 ≡ side → q ≤ k → k < q + 16 → IsWrittenAt s h cells weights old f k)
-        → (f k : ℕ) → f < 2 * (axis + 1) → f % 2 ≡ side → q ≤ k → k < q + 16 → IsWrittenAt s h cells weights new f k
-    side_more axis side is two sixteen before f k l m from to = go (cases_lt f (2 * axis))
-      where
-        go : (f < 2 * axis) ⊎ (2 * axis ≤ f) → IsWrittenAt s h cells weights new f k
-        go (inl less) = put_writes.kept f k (omega (arith, less, is, p.place)) (omega (arith, to, sixteen, p.within)) (before f k less m from to)
-        go (inr more) = let same : e ≡ f = omega (arith, is, more, l, m, two) in subst (λ (z : ℕ). IsWrittenAt s h cells weights new z k) same (put_here k from (omega (arith, to, sixteen)))
+  -- places of one axis so far, and one more
+  pub side_more : (e q side : ℕ) (old new : List (ℕ × ℕ)) → WritesCosts s h cells weights old new → e < label_bits s → q + 16 ≤ length cells
+      → ((f k : ℕ) → f < e → f % 2 ≡ side → q ≤ k → k < q + 16 → IsWrittenAt s h cells weights old f k) → e % 2 ≡ side → ((k : ℕ) → q ≤ k → k < q + 16 → IsWrittenAt s h cells weights new e k)
+      → (f k : ℕ) → f < e + 2 → f % 2 ≡ side → q ≤ k → k < q + 16 → IsWrittenAt s h cells weights new f k
+  side_more e q side old new w place within before even here f k l m from to = go (cases_lt f e)
+    where
+      go : (f < e) ⊎ (e ≤ f) → IsWrittenAt s h cells weights new f k
+      go (inl less) = w.kept f k (omega (arith, less, place)) (omega (arith, to, within)) (before f k less m from to)
+      go (inr more) = let same : e ≡ f = omega (arith, more, l, m, even) in subst (λ (z : ℕ). IsWrittenAt s h cells weights new z k) same (here k from to)
+
+  -- no place of the axis stands before the first one
+  pub side_first : (q side : ℕ) (new : List (ℕ × ℕ)) → side < 2 → ((k : ℕ) → q ≤ k → k < q + 16 → IsWrittenAt s h cells weights new side k)
+      → (f k : ℕ) → f < side + 2 → f % 2 ≡ side → q ≤ k → k < q + 16 → IsWrittenAt s h cells weights new f k
+  side_first q side new two here f k l m from to = let same : side ≡ f = omega (arith, l, m, two) in subst (λ (z : ℕ). IsWrittenAt s h cells weights new z k) same (here k from to)
 
   -- the costs of one more cell, and of those before it
   pub cells_more : (q count : ℕ) (old new : List (ℕ × ℕ)) → q + count ≤ length cells → WritesCosts s h cells weights old new → ((k e : ℕ) → k < q → e < label_bits s → IsWrittenAt s h cells weights old e k)
@@ -117,17 +130,29 @@ module _ (s : Shape) (h : Hierarchy) (cells : List Cell) (weights : List ℕ) wh
   same_axis : (c : Cell) (e f : ℕ) → e % 2 ≡ f % 2 → on_axis c e ≡ on_axis c f
   same_axis c e f same = ap (λ (z : ℕ). if z == 0 then c.re else c.im) same
 
-  pub lanes_here : (ls vs ws : List ℕ) (e side axis q first : ℕ) (new : List (ℕ × ℕ)) → ls ≡ four_levels (levels s h) → e ≡ 2 * axis + side → side < 2 → e < label_bits s
-      → ((j : ℕ) (d : Cell) → j < 16 → lane_value (slice_index vs j) ≡ on_axis (slice_index_or cells (q + j) d) side) → ((j : ℕ) → j < 16 → slice_index ws j ≡ slice_index weights (q + j))
-      → ((j : ℕ) → j < 16 → pair_at new (first + j) ≡ weighted (lane_pair ls axis (slice_index vs j)) (slice_index ws j))
-      → (j : ℕ) (d : Cell) → j < 16 → pair_at new (first + j) ≡ weighted (costs_at_place s h (slice_index_or cells (q + j) d) e) (slice_index weights (q + j))
-  lanes_here ls vs ws e side axis q first new el is two place ev ew here j d l =
-      let half : axis ≡ e / 2 = omega (arith, is, two) in
-      let x : ℤ = on_axis (slice_index_or cells (q + j) d) e in
-      let odd : side % 2 ≡ e % 2 = omega (arith, is) in
-      let value : lane_value (slice_index vs j) ≡ x = ev j d l ∙ same_axis (slice_index_or cells (q + j) d) side e odd in
-      let costs : lane_pair ls axis (slice_index vs j) ≡ costs_at_place s h (slice_index_or cells (q + j) d) e = ap (λ (z : ℕ). lane_pair ls z (slice_index vs j)) half ∙ lane_is s h ls (slice_index vs j) e x el value place in
-      here j l ∙ ap₂ weighted costs (ew j l)
+  pub lanes_put : (ls vs ws : List ℕ) (e q first : ℕ) (old new : List (ℕ × ℕ)) → ls ≡ four_levels (levels s h) → first ≡ e * length cells + q → e < label_bits s → q + 16 ≤ length cells
+      → ((k : ℕ) → k < length cells → slice_index weights k ≤ 15)
+      → ((j : ℕ) (d : Cell) → j < 16 → lane_value (slice_index vs j) ≡ on_axis (slice_index_or cells (q + j) d) (e % 2)) → ((j : ℕ) → j < 16 → slice_index ws j ≡ slice_index weights (q + j))
+      → length new ≡ length old → ((j : ℕ) → j < 16 → pair_at new (first + j) ≡ weighted (lane_pair ls (e / 2) (slice_index vs j)) (slice_index ws j))
+      → ((k : ℕ) → k < first → pair_at new k ≡ pair_at old k) → ((k : ℕ) → first + 16 ≤ k → pair_at new k ≡ pair_at old k) → Put e q 16 first old new
+  lanes_put ls vs ws e q first old new el is place within light ev ew long here below above = record {
+    is = is;
+    place = place;
+    within = within;
+    light = light;
+    long = long;
+    here = there;
+    below = below;
+    above = above;
+  }
+    where
+      there : (j : ℕ) (d : Cell) → j < 16 → pair_at new (first + j) ≡ weighted (costs_at_place s h (slice_index_or cells (q + j) d) e) (slice_index weights (q + j))
+      there j d l =
+          let x : ℤ = on_axis (slice_index_or cells (q + j) d) e in
+          let same : (e % 2) % 2 ≡ e % 2 = omega arith in
+          let value : lane_value (slice_index vs j) ≡ x = ev j d l ∙ same_axis (slice_index_or cells (q + j) d) (e % 2) e same in
+          let costs : lane_pair ls (e / 2) (slice_index vs j) ≡ costs_at_place s h (slice_index_or cells (q + j) d) e = lane_is s h ls (slice_index vs j) e x el value place in
+          here j l ∙ ap₂ weighted costs (ew j l)
 
   -- one pair is put
   pub one_put : (e q first : ℕ) (pair : ℕ × ℕ) (old : List (ℕ × ℕ)) → first ≡ e * length cells + q → e < label_bits s → q < length cells → ((k : ℕ) → k < length cells → slice_index weights k ≤ 15) → label_bits s * length cells ≤ length old

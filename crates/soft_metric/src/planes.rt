@@ -1,6 +1,6 @@
 // The weighted costs of all places of the labels of many cells.
 ghost use Rattle.std.specs.Prelude.{◌≡◌, ◌+◌, ◌-◌, ◌*◌, ◌/◌, ◌%◌, ◌<◌, ◌≤◌, ℕ, length, map, slice_index};
-ghost use Rattle.std.specs.Prelude.{slice_index_or};
+ghost use Rattle.std.specs.Prelude.{slice_index_or, IsTrue};
 ghost use Rattle.mode_set.specs.Levels.{levels as levels_of};
 ghost use Rattle.mode_set.specs.StreamTable.{label_bits};
 ghost use Rattle.qam_map.specs.Points.{on_axis};
@@ -12,7 +12,7 @@ ghost use Rattle.soft_metric.specs.Weights.{weighted as weighted_by};
 
 use crate::lanes::{lane_costs, value_of};
 use crate::metric::costs;
-use crate::weight::{weighed, weighted};
+use crate::weight::{weighed_by, weighted};
 use mode_set::{Hierarchy, Shape};
 use qam_map::Cell;
 use std::simd::num::SimdUint;
@@ -100,8 +100,29 @@ fn put_pairs(to: &mut [(u16, u16)], first: usize, zero: [u16; 16], one: [u16; 16
     }
 }
 
-// Writes the weighted costs of the bit of axis number `axis` of sixteen values.
-fn write_lanes(
+// The weights of sixteen cells in lanes. None is read if all are known to be full.
+fn lane_weights<const FULL: bool>(weights: &[u8], first: usize) -> u16x16
+    requires within { first + 16 ≤ length weights.now }
+    requires full { IsTrue FULL → (k : ℕ) → k < length weights.now → slice_index weights.now k ≡ 15 }
+    ensures { (j : ℕ) → j < 16 → slice_index result j ≡ slice_index weights.now (first + j) }
+{
+    if FULL {
+        u16x16::splat(15)
+    } else {
+        u16x16::from_array(weights_from(weights, first))
+    }
+}
+
+// The values of sixteen cells on an axis, and the weights of the cells.
+#[derive(Clone, Copy, Drop)]
+struct Sixteen {
+    values: u16x16,
+    weights: u16x16,
+}
+
+// Writes the weighted costs of the bit of axis number `axis` of sixteen cells.
+#[inline(always)]
+fn write_lanes<const FULL: bool>(
     levels: [u16; 4],
     axis: u8,
     values: u16x16,
@@ -112,6 +133,7 @@ fn write_lanes(
     requires axis { axis < 3 }
     requires levels { (k : ℕ) → slice_index levels k ≤ 20000 }
     requires weights { (k : ℕ) → k < 16 → slice_index weights k ≤ 15 }
+    requires full { IsTrue FULL → (k : ℕ) → k < 16 → slice_index weights k ≡ 15 }
     requires room { first + 16 ≤ length to.old }
     ensures long { length to.new ≡ length to.old }
     ensures here { (k : ℕ) → k < 16 → pair_at to.new (first + k)
@@ -123,47 +145,103 @@ fn write_lanes(
     put_pairs(
         to,
         first,
-        weighed(zero, weights).to_array(),
-        weighed(one, weights).to_array(),
+        weighed_by::<FULL>(zero, weights).to_array(),
+        weighed_by::<FULL>(one, weights).to_array(),
+    );
+}
+
+// Writes the weighted costs at one place of sixteen cells from number `q` on, which have these values
+// on the place's axis.
+#[inline(always)]
+fn write_place<const FULL: bool>(
+    axes: Axes,
+    cells: &[Cell],
+    weights: &[u8],
+    sixteen: Sixteen,
+    place: u8,
+    q: usize,
+    to: &mut [(u16, u16)],
+)
+    requires levels { axes.levels ≡ four_levels (levels_of axes.shape axes.hierarchy) }
+    requires place { place < label_bits axes.shape }
+    requires weights_long { length weights.now ≡ length cells.now }
+    requires weights { (k : ℕ) → k < length cells.now → slice_index weights.now k ≤ 15 }
+    requires full { IsTrue FULL → (k : ℕ) → k < length weights.now → slice_index weights.now k ≡ 15 }
+    requires within { q + 16 ≤ length cells.now }
+    requires values { (j : ℕ) (d : AnyCell) → j < 16 → lane_value (slice_index sixteen.values j)
+        ≡ on_axis (slice_index_or cells.now (q + j) d) (place % 2) }
+    requires lane_weights { (j : ℕ) → j < 16 → slice_index sixteen.weights j ≡ slice_index weights.now (q + j) }
+    requires room { label_bits axes.shape * length cells.now ≤ length to.old }
+    ensures writes { WritesCosts axes.shape axes.hierarchy cells.now weights.now to.old to.new }
+    ensures here { (k : ℕ) → q ≤ k → k < q + 16
+        → IsWrittenAt axes.shape axes.hierarchy cells.now weights.now to.new place k }
+{
+    let first = place as usize * cells.len() + q;
+    write_lanes::<FULL>(
+        axes.levels,
+        place / 2,
+        sixteen.values,
+        sixteen.weights,
+        to,
+        first,
     );
 }
 
 // Writes the weighted costs at all places of the axis of `side`, 0 or 1, of sixteen cells from number
-// `q` on, which have these values on the axis.
+// `q` on, which have these values on the axis. It has no loop, so that the compiler knows each place.
 #[inline(always)]
-fn write_side(
+fn write_side<const PLACES: u8, const FULL: bool>(
     axes: Axes,
     cells: &[Cell],
     weights: &[u8],
-    values: u16x16,
+    sixteen: Sixteen,
     side: u8,
     q: usize,
     to: &mut [(u16, u16)],
 )
     requires levels { axes.levels ≡ four_levels (levels_of axes.shape axes.hierarchy) }
+    requires places { label_bits axes.shape ≡ PLACES }
     requires side { side < 2 }
     requires weights_long { length weights.now ≡ length cells.now }
     requires weights { (k : ℕ) → k < length cells.now → slice_index weights.now k ≤ 15 }
+    requires full { IsTrue FULL → (k : ℕ) → k < length weights.now → slice_index weights.now k ≡ 15 }
     requires within { q + 16 ≤ length cells.now }
-    requires values { (j : ℕ) (d : AnyCell) → j < 16 → lane_value (slice_index values j)
+    requires values { (j : ℕ) (d : AnyCell) → j < 16 → lane_value (slice_index sixteen.values j)
         ≡ on_axis (slice_index_or cells.now (q + j) d) side }
+    requires lane_weights { (j : ℕ) → j < 16 → slice_index sixteen.weights j ≡ slice_index weights.now (q + j) }
     requires room { label_bits axes.shape * length cells.now ≤ length to.old }
     ensures writes { WritesCosts axes.shape axes.hierarchy cells.now weights.now to.old to.new }
     ensures here { (e k : ℕ) → e < label_bits axes.shape → e % 2 ≡ side → q ≤ k → k < q + 16
         → IsWrittenAt axes.shape axes.hierarchy cells.now weights.now to.new e k }
 {
-    let lane_weights = u16x16::from_array(weights_from(weights, q));
-    for axis in 0..axes.shape.label_bits() / 2 {
-        let first = (2 * axis + side) as usize * cells.len() + q;
-        write_lanes(axes.levels, axis, values, lane_weights, to, first);
+    match PLACES {
+        2 => write_place::<FULL>(axes, cells, weights, sixteen, side, q, to),
+        4 => {
+            write_place::<FULL>(axes, cells, weights, sixteen, side, q, to);
+            write_place::<FULL>(axes, cells, weights, sixteen, 2 + side, q, to);
+        }
+        _ => {
+            write_place::<FULL>(axes, cells, weights, sixteen, side, q, to);
+            write_place::<FULL>(axes, cells, weights, sixteen, 2 + side, q, to);
+            write_place::<FULL>(axes, cells, weights, sixteen, 4 + side, q, to);
+        }
     }
 }
 
 // Writes the weighted costs at all places of sixteen cells from number `q` on.
-fn write_sixteen(axes: Axes, cells: &[Cell], weights: &[u8], q: usize, to: &mut [(u16, u16)])
+#[inline(always)]
+fn write_sixteen<const PLACES: u8, const FULL: bool>(
+    axes: Axes,
+    cells: &[Cell],
+    weights: &[u8],
+    q: usize,
+    to: &mut [(u16, u16)],
+)
     requires levels { axes.levels ≡ four_levels (levels_of axes.shape axes.hierarchy) }
+    requires places { label_bits axes.shape ≡ PLACES }
     requires weights_long { length weights.now ≡ length cells.now }
     requires weights { (k : ℕ) → k < length cells.now → slice_index weights.now k ≤ 15 }
+    requires full { IsTrue FULL → (k : ℕ) → k < length weights.now → slice_index weights.now k ≡ 15 }
     requires within { q + 16 ≤ length cells.now }
     requires room { label_bits axes.shape * length cells.now ≤ length to.old }
     ensures writes { WritesCosts axes.shape axes.hierarchy cells.now weights.now to.old to.new }
@@ -171,8 +249,17 @@ fn write_sixteen(axes: Axes, cells: &[Cell], weights: &[u8], q: usize, to: &mut 
         → IsWrittenAt axes.shape axes.hierarchy cells.now weights.now to.new e k }
 {
     let (real, imaginary) = values_from(cells, q);
-    write_side(axes, cells, weights, real, 0, q, to);
-    write_side(axes, cells, weights, imaginary, 1, q, to);
+    let weighed = lane_weights::<FULL>(weights, q);
+    let of_real = Sixteen {
+        values: real,
+        weights: weighed,
+    };
+    let of_imaginary = Sixteen {
+        values: imaginary,
+        weights: weighed,
+    };
+    write_side::<PLACES, FULL>(axes, cells, weights, of_real, 0, q, to);
+    write_side::<PLACES, FULL>(axes, cells, weights, of_imaginary, 1, q, to);
 }
 
 // Writes the weighted costs at all places of one cell.
@@ -198,6 +285,69 @@ fn write_one(
 }
 
 // Writes the weighted costs at all places of many cells, sixteen at once and the rest one by one.
+fn write_cells<const PLACES: u8, const FULL: bool>(
+    axes: Axes,
+    cells: &[Cell],
+    weights: &[u8],
+    to: &mut [(u16, u16)],
+)
+    requires levels { axes.levels ≡ four_levels (levels_of axes.shape axes.hierarchy) }
+    requires places { label_bits axes.shape ≡ PLACES }
+    requires weights_long { length weights.now ≡ length cells.now }
+    requires weights { (k : ℕ) → k < length cells.now → slice_index weights.now k ≤ 15 }
+    requires full { IsTrue FULL → (k : ℕ) → k < length weights.now → slice_index weights.now k ≡ 15 }
+    requires room { label_bits axes.shape * length cells.now ≤ length to.old }
+    ensures writes { WritesCosts axes.shape axes.hierarchy cells.now weights.now to.old to.new }
+    ensures here { (k e : ℕ) → k < length cells.now → e < label_bits axes.shape
+        → IsWrittenAt axes.shape axes.hierarchy cells.now weights.now to.new e k }
+{
+    let mut q = 0;
+    while q + 16 <= cells.len() {
+        write_sixteen::<PLACES, FULL>(axes, cells, weights, q, to);
+        q += 16;
+    }
+    while q < cells.len() {
+        write_one(axes.shape, axes.hierarchy, cells, weights, q, to);
+        q += 1;
+    }
+}
+
+// Writes them by the number of places, which then is a constant.
+fn write_by_shape<const FULL: bool>(
+    axes: Axes,
+    cells: &[Cell],
+    weights: &[u8],
+    to: &mut [(u16, u16)],
+)
+    requires levels { axes.levels ≡ four_levels (levels_of axes.shape axes.hierarchy) }
+    requires weights_long { length weights.now ≡ length cells.now }
+    requires weights { (k : ℕ) → k < length cells.now → slice_index weights.now k ≤ 15 }
+    requires full { IsTrue FULL → (k : ℕ) → k < length weights.now → slice_index weights.now k ≡ 15 }
+    requires room { label_bits axes.shape * length cells.now ≤ length to.old }
+    ensures writes { WritesCosts axes.shape axes.hierarchy cells.now weights.now to.old to.new }
+    ensures here { (k e : ℕ) → k < length cells.now → e < label_bits axes.shape
+        → IsWrittenAt axes.shape axes.hierarchy cells.now weights.now to.new e k }
+{
+    match axes.shape {
+        Shape::Qpsk => write_cells::<2, FULL>(axes, cells, weights, to),
+        Shape::Qam16 => write_cells::<4, FULL>(axes, cells, weights, to),
+        Shape::Qam64 => write_cells::<6, FULL>(axes, cells, weights, to),
+    }
+}
+
+// Whether all of these weights are 15.
+fn are_full(weights: &[u8]) -> bool
+    requires { (k : ℕ) → k < length weights.now → slice_index weights.now k ≤ 15 }
+    ensures { IsTrue result → (k : ℕ) → k < length weights.now → slice_index weights.now k ≡ 15 }
+{
+    let mut least = 15;
+    for k in 0..weights.len() {
+        least = weights[k].min(least);
+    }
+    least == 15
+}
+
+// Writes the weighted costs at all places of many cells. Full weights, which change nothing, take less.
 pub(crate) fn write_planes(axes: Axes, cells: &[Cell], weights: &[u8], to: &mut [(u16, u16)])
     requires levels { axes.levels ≡ four_levels (levels_of axes.shape axes.hierarchy) }
     requires weights_long { length weights.now ≡ length cells.now }
@@ -207,13 +357,9 @@ pub(crate) fn write_planes(axes: Axes, cells: &[Cell], weights: &[u8], to: &mut 
     ensures here { (k e : ℕ) → k < length cells.now → e < label_bits axes.shape
         → IsWrittenAt axes.shape axes.hierarchy cells.now weights.now to.new e k }
 {
-    let mut q = 0;
-    while q + 16 <= cells.len() {
-        write_sixteen(axes, cells, weights, q, to);
-        q += 16;
-    }
-    while q < cells.len() {
-        write_one(axes.shape, axes.hierarchy, cells, weights, q, to);
-        q += 1;
+    if are_full(weights) {
+        write_by_shape::<true>(axes, cells, weights, to);
+    } else {
+        write_by_shape::<false>(axes, cells, weights, to);
     }
 }

@@ -1,5 +1,5 @@
 // Costs by the weight of their cell.
-ghost use Rattle.std.specs.Prelude.{◌≡◌, ◌*◌, ◌/◌, ◌%◌, ◌^◌, ◌≤◌};
+ghost use Rattle.std.specs.Prelude.{◌≡◌, ◌*◌, ◌/◌, ◌%◌, ◌^◌, ◌<◌, ◌≤◌, ℕ, slice_index, IsTrue};
 ghost use Rattle.std.specs.Simd.Lanes.{zip2};
 ghost use Rattle.soft_metric.specs.Squares.{IsSmallPair};
 ghost use Rattle.soft_metric.specs.Weights.{weighted as weighted_by};
@@ -22,11 +22,23 @@ pub fn weighted(pair: (u16, u16), weight: u8) -> (u16, u16)
 }
 
 // Costs by weights in each lane.
-pub(crate) fn weighed(costs: u16x16, weights: u16x16) -> u16x16
+fn weighed(costs: u16x16, weights: u16x16) -> u16x16
     ensures { result ≡ zip2 (λ cost weight. cost * weight % 2 ^ 16 / 15) costs weights }
 {
     let products: u32x16 = (costs * weights).cast();
     // a fifteenth is 34953 / 2^19: the upper half of a product, which is one instruction, and its eighth
     let high: u16x16 = (products * u32x16::splat(34953) >> u32x16::splat(16)).cast();
     high >> u16x16::splat(3)
+}
+
+// The same, for weights that are known to be full, if `FULL`: they change nothing.
+pub(crate) fn weighed_by<const FULL: bool>(costs: u16x16, weights: u16x16) -> u16x16
+    requires costs { (k : ℕ) → k < 16 → slice_index costs k ≤ 4095 }
+    requires full { IsTrue FULL → (k : ℕ) → k < 16 → slice_index weights k ≡ 15 }
+    ensures { result ≡ zip2 (λ cost weight. cost * weight % 2 ^ 16 / 15) costs weights }
+{
+    if FULL {
+        return costs;
+    }
+    weighed(costs, weights)
 }
