@@ -9,6 +9,7 @@ use Rattle.mode_set.specs.StreamTable.{label_bits}
 use Rattle.mode_set.specs.declared.modes.Shape.{Shape}
 use Rattle.mode_set.specs.declared.modes.Shape.TheVariants.{Qpsk, Qam16, Qam64}
 use Rattle.mode_set.specs.declared.modes.Hierarchy.{Hierarchy}
+use Rattle.mode_set.specs.declared.modes.Hierarchy.TheVariants.{Flat, Alpha1, Alpha2, Alpha4}
 use Rattle.soft_metric.specs.Costs.{cost, four_levels}
 use Rattle.soft_metric.specs.Squares.{scaled, near, pair_at, IsSmallPair, AreAxisCosts, lane_magnitude, lane_positive, lane_value, near_two, near_four, far_one, lane_zero, lane_one, lane_pair}
 use Rattle.soft_metric.proofs.Sides.{axis_is, pairs_small}
@@ -79,3 +80,28 @@ lane_at vs zs os ls a k n l ez eo =
     let z : slice_index zs k ≡ lane_zero ls a (slice_index vs k) = ap (λ q. slice_index q k) ez ∙ get_or-map (lane_zero ls a) vs k 0 0 (omega (arith, n, l)) in
     let o : slice_index os k ≡ lane_one ls a (slice_index vs k) = ap (λ q. slice_index q k) eo ∙ get_or-map (lane_one ls a) vs k 0 0 (omega (arith, n, l)) in
     ap₂ two z o
+
+-- no level is 0
+levels_from : (a b c d k : ℕ) → 1 ≤ a → 1 ≤ b → 1 ≤ c → 1 ≤ d → k < 4 → 1 ≤ slice_index (a ∷ b ∷ c ∷ d ∷ []) k
+levels_from a b c d zero p q r s l = p
+levels_from a b c d (suc zero) p q r s l = q
+levels_from a b c d (suc (suc zero)) p q r s l = r
+levels_from a b c d (suc (suc (suc zero))) p q r s l = s
+levels_from a b c d (suc (suc (suc (suc k)))) p q r s l = absurd (omega (arith, l))
+
+table_above : (s : Shape) (h : Hierarchy) (k : ℕ) → k < 4 → 1 ≤ slice_index (four_levels (levels s h)) k
+table_above Qpsk Flat k l = levels_from _ _ _ _ k (omega arith) (omega arith) (omega arith) (omega arith) l
+table_above Qpsk Alpha1 k l = levels_from _ _ _ _ k (omega arith) (omega arith) (omega arith) (omega arith) l
+table_above Qpsk Alpha2 k l = levels_from _ _ _ _ k (omega arith) (omega arith) (omega arith) (omega arith) l
+table_above Qpsk Alpha4 k l = levels_from _ _ _ _ k (omega arith) (omega arith) (omega arith) (omega arith) l
+table_above Qam16 Flat k l = levels_from _ _ _ _ k (omega arith) (omega arith) (omega arith) (omega arith) l
+table_above Qam16 Alpha1 k l = levels_from _ _ _ _ k (omega arith) (omega arith) (omega arith) (omega arith) l
+table_above Qam16 Alpha2 k l = levels_from _ _ _ _ k (omega arith) (omega arith) (omega arith) (omega arith) l
+table_above Qam16 Alpha4 k l = levels_from _ _ _ _ k (omega arith) (omega arith) (omega arith) (omega arith) l
+table_above Qam64 Flat k l = levels_from _ _ _ _ k (omega arith) (omega arith) (omega arith) (omega arith) l
+table_above Qam64 Alpha1 k l = levels_from _ _ _ _ k (omega arith) (omega arith) (omega arith) (omega arith) l
+table_above Qam64 Alpha2 k l = levels_from _ _ _ _ k (omega arith) (omega arith) (omega arith) (omega arith) l
+table_above Qam64 Alpha4 k l = levels_from _ _ _ _ k (omega arith) (omega arith) (omega arith) (omega arith) l
+
+pub levels_above : (s : Shape) (h : Hierarchy) (ls : List ℕ) → ls ≡ four_levels (levels s h) → (k : ℕ) → k < 4 → 1 ≤ slice_index ls k
+levels_above s h ls e k l = subst (λ z. 1 ≤ slice_index z k) (sym e) (table_above s h k l)

@@ -1,11 +1,12 @@
 -- Lane by lane: distances, the lesser of two, scaled squares.
 use Rattle.std.proofs.Common.{◌≡◌, ℕ, zero, suc, ◌+◌, ◌-◌, ◌*◌, ◌/◌, ◌%◌, ◌^◌, ◌<◌, ◌≤◌, min, Bool, true, false, cond, List, [], ◌∷◌, length, map, replicate, ◌⊎◌, inl, inr, refl, sym, ap, ap₂, ◌∙◌, arith, ltb, w16, Fits, pow-suc, mod-eq_of_lt}
-use Rattle.std.proofs.Math.Nat.{mul-le-mul_right, pow-zero}
+use Rattle.std.proofs.Math.Nat.{mul-le-mul_right, pow-le-pow_left, pow-zero}
 use Rattle.std.specs.Int.{abs_diff}
 use Rattle.std.specs.Simd.Lanes.{zip2, sel_l, top, Each1}
-use Rattle.std.proofs.lemmas.Bool.{cases_Bool, ltb-true, ltb-false}
-use Rattle.std.proofs.lemmas.Simd.{zip2_of_maps, splat_is_map, map-map}
+use Rattle.std.proofs.lemmas.Bool.{cases_lt, cases_Bool, ltb-true, ltb-false}
+use Rattle.std.proofs.lemmas.Simd.{zip2_of_maps, map-map}
 use Rattle.std.specs.Prelude.{slice_index}
+use Rattle.soft_metric.proofs.Wrapping.{square_wraps}
 use Rattle.soft_metric.specs.Squares.{scaled, lane_magnitude, near_two, near_four, far_one, lane_zero, lane_one}
 
 -- which lanes of one vector are less than those of another
@@ -26,18 +27,6 @@ pub lesser_is : (xs ys : List ℕ) → sel_l (less xs ys) xs ys ≡ zip2 min xs 
 lesser_is [] ys = refl
 lesser_is (a ∷ xs) [] = refl
 lesser_is (a ∷ xs) (b ∷ ys) = ap₂ (λ (z : ℕ) (zs : List ℕ). z ∷ zs) (lesser_one a b) (lesser_is xs ys)
-
-gap_one : (a b : ℕ) → a < 65536 → b < 65536 → (cond (top 15 (cond (ltb a b) 65535 0)) b a + (65536 - cond (top 15 (cond (ltb a b) 65535 0)) a b)) % 65536 ≡ abs_diff a b
-gap_one a b l m = go (cases_Bool (ltb a b))
-  where
-    go : (ltb a b ≡ true) ⊎ (ltb a b ≡ false) → (cond (top 15 (cond (ltb a b) 65535 0)) b a + (65536 - cond (top 15 (cond (ltb a b) 65535 0)) a b)) % 65536 ≡ abs_diff a b
-    go (inl h) = ap (λ z. (cond (top 15 (cond z 65535 0)) b a + (65536 - cond (top 15 (cond z 65535 0)) a b)) % 65536) h ∙ omega (arith, ltb-true a b h)
-    go (inr h) = ap (λ z. (cond (top 15 (cond z 65535 0)) b a + (65536 - cond (top 15 (cond z 65535 0)) a b)) % 65536) h ∙ omega (arith, ltb-false a b h)
-
-pub gaps_are : (xs ys : List ℕ) → Each1 (Fits w16) xs → Each1 (Fits w16) ys → differences (sel_l (less xs ys) ys xs) (sel_l (less xs ys) xs ys) ≡ zip2 abs_diff xs ys
-gaps_are [] ys f g = refl
-gaps_are (a ∷ xs) [] f g = refl
-gaps_are (a ∷ xs) (b ∷ ys) f g = ap₂ (λ (z : ℕ) (zs : List ℕ). z ∷ zs) (gap_one a b f.0.fits g.0.fits) (gaps_are xs ys f.1 g.1)
 
 -- ---- scaled squares: the upper half of a square, and a quarter of it
 square_fits : (g : ℕ) → g < 65536 → g * g < 4294967296
@@ -66,6 +55,39 @@ scaled_are [] n e f = refl
 scaled_are (g ∷ gs) zero e f = absurd (omega (arith, e))
 scaled_are (g ∷ gs) (suc n) e f = ap₂ (λ (z : ℕ) (zs : List ℕ). z ∷ zs) (scaled_one g f.0.fits) (scaled_are gs n (omega (arith, e)) f.1)
 
+-- ---- scaled squares of distances with their signs
+abbrev pub signed_gaps : List ℕ → ℕ → ℕ → List ℕ
+signed_gaps ms n y = zip2 (λ a b. (a + (4294967296 - b)) % 4294967296) (map (λ a. a) (zip2 (λ a b. (a + b) % 65536) (differences ms (replicate n y)) (replicate n 32768))) (replicate n 32768)
+
+abbrev pub near_halves : List ℕ → ℕ → ℕ → List ℕ
+near_halves ms n y = zip2 (λ a b. a / 2 ^ b) (zip2 (λ a b. a * b % 4294967296) (signed_gaps ms n y) (signed_gaps ms n y)) (replicate n 16)
+
+pub near_halves_fit : (ms : List ℕ) (n y : ℕ) → Each1 (Fits w16) (near_halves ms n y)
+near_halves_fit [] n y = tt
+near_halves_fit (m ∷ ms) zero y = tt
+near_halves_fit (m ∷ ms) (suc n) y = (record { fits = omega arith }, near_halves_fit ms n y)
+
+abbrev pub costs_to : ℕ → List ℕ → List ℕ
+costs_to y ms = map (λ m. scaled (abs_diff m y ^ 2)) ms
+
+signed_one : (m y : ℕ) → m ≤ 32768 → 1 ≤ y → y ≤ 20000 → (((m + (65536 - y)) % 65536 + 32768) % 65536 + (4294967296 - 32768)) % 4294967296 ≡ (m + (4294967296 - y)) % 4294967296
+signed_one m y a b d = omega (arith, a, b, d)
+
+near_one : (m y : ℕ) → m ≤ 32768 → 1 ≤ y → y ≤ 20000
+    → (((m + (65536 - y)) % 65536 + 32768) % 65536 + (4294967296 - 32768)) % 4294967296 * ((((m + (65536 - y)) % 65536 + 32768) % 65536 + (4294967296 - 32768)) % 4294967296) % 4294967296 / 65536 / 4 ≡ scaled (abs_diff m y ^ 2)
+near_one m y a b d =
+    let near : abs_diff m y ≤ 32767 = omega (arith, a, b, d) in
+    let most : abs_diff m y ^ 2 ≤ 32767 ^ 2 = pow-le-pow_left near 2 in
+    let same : abs_diff m y ^ 2 / 65536 / 4 ≡ min 4095 (abs_diff m y ^ 2 / 262144) = omega (arith, most) in
+    ap (λ z. z * z % 4294967296 / 65536 / 4) (signed_one m y a b d) ∙ ap (λ z. z / 65536 / 4) (square_wraps m y a d) ∙ same
+
+pub near_are : (ms : List ℕ) (n y : ℕ) → 1 ≤ y → y ≤ 20000 → length ms ≡ n → ((k : ℕ) → k < n → slice_index ms k ≤ 32768)
+    → zip2 (λ a b. a / 2 ^ b) (map (λ a. a) (near_halves ms n y)) (replicate n 2) ≡ costs_to y ms
+near_are [] n y a b e small = refl
+near_are (m ∷ ms) zero y a b e small = absurd (omega (arith, e))
+near_are (m ∷ ms) (suc n) y a b e small =
+    ap₂ (λ (z : ℕ) (zs : List ℕ). z ∷ zs) (near_one m y (small 0 (omega arith)) a b) (near_are ms n y a b (omega (arith, e)) (λ k l. small (suc k) (omega (arith, l))))
+
 -- ---- what the vectors of a step hold, by the values
 pub magnitudes_are : (vs : List ℕ) (n : ℕ) → length vs ≡ n → zip2 min vs (differences (replicate n 0) vs) ≡ map lane_magnitude vs
 magnitudes_are [] n e = refl
@@ -75,7 +97,7 @@ magnitudes_are (v ∷ vs) (suc n) e = ap₂ (λ (z : ℕ) (zs : List ℕ). z ∷
     one : min v ((0 + (65536 - v)) % 65536) ≡ lane_magnitude v
     one = omega arith
 
-magnitude_small : (v : ℕ) → lane_magnitude v ≤ 32768
+pub magnitude_small : (v : ℕ) → lane_magnitude v ≤ 32768
 magnitude_small v = omega arith
 
 pub fars_are : (vs : List ℕ) (n y : ℕ) → y ≤ 20000 → length vs ≡ n → zip2 (λ a b. (a + b) % 65536) (map lane_magnitude vs) (replicate n y) ≡ map (λ v. lane_magnitude v + y) vs
@@ -92,9 +114,6 @@ signs_are (v ∷ vs) (suc n) y f g e = ap₂ (λ (z : ℕ) (zs : List ℕ). z �
     one true = refl
     one false = refl
 
-pub gap_map : (vs ms r : List ℕ) (n y : ℕ) (f : ℕ → ℕ) → length vs ≡ n → ms ≡ map f vs → r ≡ zip2 abs_diff ms (replicate n y) → r ≡ map (λ v. abs_diff (f v) y) vs
-gap_map vs ms r n y f e em er = er ∙ zip2_of_maps abs_diff f (λ _. y) vs em (splat_is_map vs n y e)
-
 pub lesser_map : (vs ms ns r : List ℕ) (f g : ℕ → ℕ) → ms ≡ map f vs → ns ≡ map g vs → r ≡ zip2 min ms ns → r ≡ map (λ v. min (f v) (g v)) vs
 lesser_map vs ms ns r f g em en er = er ∙ zip2_of_maps min f g vs em en
 
@@ -105,60 +124,64 @@ scaled_map vs ms r f em er = er ∙ ap (map (λ g. scaled (g ^ 2))) em ∙ map-m
 abbrev pub squares : List ℕ → List ℕ
 squares gs = map (λ g. scaled (g ^ 2)) gs
 
-module _ (vs ms gs hs is js ls : List ℕ) (n : length vs ≡ 16) (m : ms ≡ zip2 min vs (differences (replicate 16 0) vs))
-    (g : gs ≡ zip2 abs_diff ms (replicate 16 (slice_index ls 0))) (h : hs ≡ zip2 abs_diff ms (replicate 16 (slice_index ls 1)))
-    (i : is ≡ zip2 abs_diff ms (replicate 16 (slice_index ls 2))) (j : js ≡ zip2 abs_diff ms (replicate 16 (slice_index ls 3))) where
-  mags : ms ≡ map lane_magnitude vs
-  mags = m ∙ magnitudes_are vs 16 n
+lesser_cost : (x y : ℕ) → x ≤ y → min (min 4095 (x / 262144)) (min 4095 (y / 262144)) ≡ min 4095 (x / 262144)
+lesser_cost x y l = omega (arith, l)
 
+greater_cost : (x y : ℕ) → y ≤ x → min (min 4095 (x / 262144)) (min 4095 (y / 262144)) ≡ min 4095 (y / 262144)
+greater_cost x y l = omega (arith, l)
+
+-- the lesser cost is the cost of the lesser distance
+lesser_costs : (a b : ℕ) → min (scaled (a ^ 2)) (scaled (b ^ 2)) ≡ scaled (min a b ^ 2)
+lesser_costs a b = go (cases_lt a b)
+  where
+    go : (a < b) ⊎ (b ≤ a) → min (scaled (a ^ 2)) (scaled (b ^ 2)) ≡ scaled (min a b ^ 2)
+    go (inl l) = let e : a ≡ min a b = omega (arith, l) in lesser_cost (a ^ 2) (b ^ 2) (pow-le-pow_left (omega (arith, l)) 2) ∙ ap (λ z. scaled (z ^ 2)) e
+    go (inr l) = let e : b ≡ min a b = omega (arith, l) in greater_cost (a ^ 2) (b ^ 2) (pow-le-pow_left l 2) ∙ ap (λ z. scaled (z ^ 2)) e
+
+module _ (vs ms gs hs is js ls : List ℕ) (n : length vs ≡ 16) (m : ms ≡ map lane_magnitude vs)
+    (g : gs ≡ costs_to (slice_index ls 0) ms) (h : hs ≡ costs_to (slice_index ls 1) ms)
+    (i : is ≡ costs_to (slice_index ls 2) ms) (j : js ≡ costs_to (slice_index ls 3) ms) where
   abbrev near_to : ℕ → ℕ → ℕ
   near_to k v = abs_diff (lane_magnitude v) (slice_index ls k)
 
-  first : gs ≡ map (near_to 0) vs
-  first = gap_map vs _ _ 16 (slice_index ls 0) lane_magnitude n mags g
+  abbrev cost_to : ℕ → ℕ → ℕ
+  cost_to k v = scaled (near_to k v ^ 2)
 
-  second : hs ≡ map (near_to 1) vs
-  second = gap_map vs _ _ 16 (slice_index ls 1) lane_magnitude n mags h
+  one : (k : ℕ) (xs : List ℕ) → xs ≡ costs_to (slice_index ls k) ms → xs ≡ map (cost_to k) vs
+  one k xs e = e ∙ ap (costs_to (slice_index ls k)) m ∙ map-map (λ u. scaled (abs_diff u (slice_index ls k) ^ 2)) lane_magnitude vs
 
-  third : is ≡ map (near_to 2) vs
-  third = gap_map vs _ _ 16 (slice_index ls 2) lane_magnitude n mags i
+  two : (a b : ℕ) (xs ys rs : List ℕ) → xs ≡ costs_to (slice_index ls a) ms → ys ≡ costs_to (slice_index ls b) ms → rs ≡ zip2 min xs ys → rs ≡ map (λ v. scaled (near_two ls v a b ^ 2)) vs
+  two a b xs ys rs ex ey e = lesser_map vs xs ys rs (cost_to a) (cost_to b) (one a xs ex) (one b ys ey) e ∙ (λ t. map (λ v. lesser_costs (near_to a v) (near_to b v) t) vs)
 
-  last : js ≡ map (near_to 3) vs
-  last = gap_map vs _ _ 16 (slice_index ls 3) lane_magnitude n mags j
+  module _ (axis : ℕ) (os ps rs : List ℕ) where
+    pub outer_zero : axis ≡ 1 → rs ≡ zip2 min gs hs → rs ≡ map (lane_zero ls axis) vs
+    outer_zero a e = two 0 1 gs hs rs g h e ∙ ap (λ z. map (lane_zero ls z) vs) (sym a)
 
-  outer : (os : List ℕ) → os ≡ zip2 min gs hs → os ≡ map (λ v. near_two ls v 0 1) vs
-  outer os e = lesser_map vs _ _ _ (near_to 0) (near_to 1) first second e
+    pub outer_one : axis ≡ 1 → rs ≡ zip2 min is js → rs ≡ map (lane_one ls axis) vs
+    outer_one a e = two 2 3 is js rs i j e ∙ ap (λ z. map (lane_one ls z) vs) (sym a)
 
-  inner : (ps : List ℕ) → ps ≡ zip2 min is js → ps ≡ map (λ v. near_two ls v 2 3) vs
-  inner ps e = lesser_map vs _ _ _ (near_to 2) (near_to 3) third last e
+    pub inner_zero : axis ≡ 2 → rs ≡ zip2 min gs js → rs ≡ map (lane_zero ls axis) vs
+    inner_zero a e = two 0 3 gs js rs g j e ∙ ap (λ z. map (lane_zero ls z) vs) (sym a)
 
-  module _ (axis : ℕ) (os ps qs rs : List ℕ) where
-    pub outer_zero : axis ≡ 1 → os ≡ zip2 min gs hs → rs ≡ squares os → rs ≡ map (lane_zero ls axis) vs
-    outer_zero a e f = scaled_map vs _ _ (λ v. near_two ls v 0 1) (outer os e) f ∙ ap (λ z. map (lane_zero ls z) vs) (sym a)
+    pub inner_one : axis ≡ 2 → rs ≡ zip2 min hs is → rs ≡ map (lane_one ls axis) vs
+    inner_one a e = two 1 2 hs is rs h i e ∙ ap (λ z. map (lane_one ls z) vs) (sym a)
 
-    pub outer_one : axis ≡ 1 → os ≡ zip2 min is js → rs ≡ squares os → rs ≡ map (lane_one ls axis) vs
-    outer_one a e f = scaled_map vs _ _ (λ v. near_two ls v 2 3) (inner os e) f ∙ ap (λ z. map (lane_one ls z) vs) (sym a)
-
-    pub inner_zero : axis ≡ 2 → os ≡ zip2 min gs js → rs ≡ squares os → rs ≡ map (lane_zero ls axis) vs
-    inner_zero a e f = scaled_map vs _ _ (λ v. near_two ls v 0 3) (lesser_map vs _ _ _ (near_to 0) (near_to 3) first last e) f ∙ ap (λ z. map (lane_zero ls z) vs) (sym a)
-
-    pub inner_one : axis ≡ 2 → os ≡ zip2 min hs is → rs ≡ squares os → rs ≡ map (lane_one ls axis) vs
-    inner_one a e f = scaled_map vs _ _ (λ v. near_two ls v 1 2) (lesser_map vs _ _ _ (near_to 1) (near_to 2) second third e) f ∙ ap (λ z. map (lane_one ls z) vs) (sym a)
-
-    near_is : os ≡ zip2 min gs hs → ps ≡ zip2 min is js → qs ≡ zip2 min os ps → rs ≡ squares qs → rs ≡ map (λ v. scaled (near_four ls v ^ 2)) vs
-    near_is e f k l = scaled_map vs _ _ (near_four ls) (lesser_map vs _ _ _ (λ v. near_two ls v 0 1) (λ v. near_two ls v 2 3) (outer os e) (inner ps f) k) l
+    near_is : os ≡ zip2 min gs hs → ps ≡ zip2 min is js → rs ≡ zip2 min os ps → rs ≡ map (λ v. scaled (near_four ls v ^ 2)) vs
+    near_is e f k =
+        lesser_map vs os ps rs (λ v. scaled (near_two ls v 0 1 ^ 2)) (λ v. scaled (near_two ls v 2 3 ^ 2)) (two 0 1 gs hs os g h e) (two 2 3 is js ps i j f) k
+        ∙ (λ t. map (λ v. lesser_costs (near_two ls v 0 1) (near_two ls v 2 3) t) vs)
 
     far_is : (fs : List ℕ) → slice_index ls 3 ≤ 20000 → fs ≡ squares (zip2 (λ a b. (a + b) % 65536) ms (replicate 16 (slice_index ls 3))) → fs ≡ map (λ v. scaled (far_one ls v ^ 2)) vs
-    far_is fs l e = scaled_map vs _ _ (far_one ls) (ap (λ z. zip2 (λ a b. (a + b) % 65536) z (replicate 16 (slice_index ls 3))) mags ∙ fars_are vs 16 (slice_index ls 3) l n) e
+    far_is fs l e = scaled_map vs _ _ (far_one ls) (ap (λ z. zip2 (λ a b. (a + b) % 65536) z (replicate 16 (slice_index ls 3))) m ∙ fars_are vs 16 (slice_index ls 3) l n) e
 
-    pub sign_zero : (fs : List ℕ) → axis ≡ 0 → slice_index ls 3 ≤ 20000 → os ≡ zip2 min gs hs → ps ≡ zip2 min is js → qs ≡ zip2 min os ps → rs ≡ squares qs
+    pub sign_zero : (fs : List ℕ) → axis ≡ 0 → slice_index ls 3 ≤ 20000 → os ≡ zip2 min gs hs → ps ≡ zip2 min is js → rs ≡ zip2 min os ps
         → fs ≡ squares (zip2 (λ a b. (a + b) % 65536) ms (replicate 16 (slice_index ls 3))) → sel_l (less vs (replicate 16 32768)) rs fs ≡ map (lane_zero ls axis) vs
-    sign_zero fs a l e f k r u =
-        ap₂ (λ (x y : List ℕ). sel_l (less vs (replicate 16 32768)) x y) (near_is e f k r) (far_is fs l u)
+    sign_zero fs a l e f k u =
+        ap₂ (λ (x y : List ℕ). sel_l (less vs (replicate 16 32768)) x y) (near_is e f k) (far_is fs l u)
         ∙ signs_are vs 16 32768 (λ v. scaled (near_four ls v ^ 2)) (λ v. scaled (far_one ls v ^ 2)) n ∙ ap (λ z. map (lane_zero ls z) vs) (sym a)
 
-    pub sign_one : (fs : List ℕ) → axis ≡ 0 → slice_index ls 3 ≤ 20000 → os ≡ zip2 min gs hs → ps ≡ zip2 min is js → qs ≡ zip2 min os ps → rs ≡ squares qs
+    pub sign_one : (fs : List ℕ) → axis ≡ 0 → slice_index ls 3 ≤ 20000 → os ≡ zip2 min gs hs → ps ≡ zip2 min is js → rs ≡ zip2 min os ps
         → fs ≡ squares (zip2 (λ a b. (a + b) % 65536) ms (replicate 16 (slice_index ls 3))) → sel_l (less vs (replicate 16 32768)) fs rs ≡ map (lane_one ls axis) vs
-    sign_one fs a l e f k r u =
-        ap₂ (λ (x y : List ℕ). sel_l (less vs (replicate 16 32768)) x y) (far_is fs l u) (near_is e f k r)
+    sign_one fs a l e f k u =
+        ap₂ (λ (x y : List ℕ). sel_l (less vs (replicate 16 32768)) x y) (far_is fs l u) (near_is e f k)
         ∙ signs_are vs 16 32768 (λ v. scaled (far_one ls v ^ 2)) (λ v. scaled (near_four ls v ^ 2)) n ∙ ap (λ z. map (lane_one ls z) vs) (sym a)

@@ -7,20 +7,14 @@ ghost use Rattle.mode_set.specs.StreamTable.{label_bits};
 ghost use Rattle.qam_map.specs.Points.{on_axis};
 ghost use Rattle.qam_map.specs.declared.cell.Cell.{Cell as AnyCell};
 ghost use Rattle.soft_metric.specs.Costs.{costs_at_place, four_levels};
-ghost use Rattle.soft_metric.specs.Squares.{IsSmallPair, lane_zero, lane_one, lane_value, pair_at, scaled as scaled_of};
+ghost use Rattle.soft_metric.specs.Squares.{IsSmallPair, lane_magnitude, lane_zero, lane_one, lane_value, pair_at};
+ghost use Rattle.soft_metric.specs.Squares.{scaled as scaled_of};
 
 use mode_set::{Hierarchy, Shape};
 use qam_map::Cell;
 use std::simd::cmp::{SimdOrd, SimdPartialOrd};
 use std::simd::num::SimdUint;
 use std::simd::{u16x16, u32x16};
-
-// How far two values are from each other in each lane.
-fn gaps(a: u16x16, b: u16x16) -> u16x16
-    ensures { result ≡ zip2 abs_diff a b }
-{
-    a.abs_diff(b)
-}
 
 // The lesser one in each lane.
 fn lesser(a: u16x16, b: u16x16) -> u16x16
@@ -39,28 +33,50 @@ fn scaled(gaps: u16x16) -> u16x16
     lesser(high >> u16x16::splat(2), u16x16::splat(4095))
 }
 
+// The magnitudes of values modulo 2^16.
+fn magnitudes_of(values: u16x16) -> u16x16
+    ensures values { result ≡ map lane_magnitude values }
+    ensures small { (k : ℕ) → k < 16 → slice_index result k ≤ 32768 }
+{
+    lesser(values, u16x16::splat(0) - values)
+}
+
+// The costs of the squared distances to a level on the values' side of 0, by their magnitudes.
+fn near_costs(magnitudes: u16x16, level: u16) -> u16x16
+    requires magnitudes { (k : ℕ) → k < 16 → slice_index magnitudes k ≤ 32768 }
+    requires level { (1 ≤ level) × (level ≤ 20000) }
+    ensures { result ≡ map (λ magnitude. scaled_of (abs_diff magnitude level ^ 2)) magnitudes }
+{
+    // a distance has 16 bits with its sign, so that the upper half of its square is one instruction
+    let gaps = magnitudes - u16x16::splat(level) + u16x16::splat(32768);
+    let wide = gaps.cast() - u32x16::splat(32768);
+    let high: u16x16 = (wide * wide >> u32x16::splat(16)).cast();
+    high >> u16x16::splat(2)
+}
+
 // The costs of the values 0 and 1 of the bit of axis number `axis`, where a value of an axis is
 // given modulo 2^16.
 pub(crate) fn lane_costs(levels: [u16; 4], axis: u8, values: u16x16) -> (u16x16, u16x16)
     requires axis { axis < 3 }
     requires levels { (k : ℕ) → slice_index levels k ≤ 20000 }
+    requires above { (k : ℕ) → k < 4 → 1 ≤ slice_index levels k }
     ensures zero { result.0 ≡ map (lane_zero levels axis) values }
     ensures one { result.1 ≡ map (lane_one levels axis) values }
 {
-    let magnitudes = lesser(values, u16x16::splat(0) - values);
-    let first = gaps(magnitudes, u16x16::splat(levels[0]));
-    let second = gaps(magnitudes, u16x16::splat(levels[1]));
-    let third = gaps(magnitudes, u16x16::splat(levels[2]));
-    let last = gaps(magnitudes, u16x16::splat(levels[3]));
+    let magnitudes = magnitudes_of(values);
+    let first = near_costs(magnitudes, levels[0]);
+    let second = near_costs(magnitudes, levels[1]);
+    let third = near_costs(magnitudes, levels[2]);
+    let last = near_costs(magnitudes, levels[3]);
     match axis {
         0 => {
-            let near = scaled(lesser(lesser(first, second), lesser(third, last)));
+            let near = lesser(lesser(first, second), lesser(third, last));
             let far = scaled(magnitudes + u16x16::splat(levels[3]));
             let positive = values.simd_lt(u16x16::splat(32768));
             (positive.select(near, far), positive.select(far, near))
         }
-        1 => (scaled(lesser(first, second)), scaled(lesser(third, last))),
-        _ => (scaled(lesser(first, last)), scaled(lesser(second, third))),
+        1 => (lesser(first, second), lesser(third, last)),
+        _ => (lesser(first, last), lesser(second, third)),
     }
 }
 

@@ -132,6 +132,7 @@ fn write_lanes<const FULL: bool>(
 )
     requires axis { axis < 3 }
     requires levels { (k : ℕ) → slice_index levels k ≤ 20000 }
+    requires above { (k : ℕ) → k < 4 → 1 ≤ slice_index levels k }
     requires weights { (k : ℕ) → k < 16 → slice_index weights k ≤ 15 }
     requires full { IsTrue FULL → (k : ℕ) → k < 16 → slice_index weights k ≡ 15 }
     requires room { first + 16 ≤ length to.old }

@@ -1,8 +1,11 @@
 use Rattle.std.proofs.Common.{◌≡◌, ◌/◌, ◌∙◌, sym, subst, length, rules}
 use Rattle.std.specs.Prelude.{slice_index}
 use Rattle.soft_metric.specs.Squares.{IsSmallPair}
-use Rattle.soft_metric.proofs.Lanes16.{lane_at, lane_is, lane_small, three_places}
+use Rattle.soft_metric.proofs.Lanes16.{lane_at, lane_is, levels_above, lane_small, three_places}
 use Rattle.soft_metric.proofs.lanes.costs_by_lanes.Goals as goal
+
+pub lane_costs-requires-clause-above : goal.lane_costs-requires-clause-above
+lane_costs-requires-clause-above c = levels_above c.args.shape c.args.hierarchy c.args.levels c.requires.levels
 
 pub returns-clause-costs : goal.returns-clause-costs
 returns-clause-costs c = λ k d l.

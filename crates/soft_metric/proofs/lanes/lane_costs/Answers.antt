@@ -4,30 +4,24 @@ use Rattle.soft_metric.proofs.lanes.lane_costs.Goals as goal
 
 pub returns-in-0-clause-zero : goal.returns-in-0-clause-zero
 returns-in-0-clause-zero c =
-    sign_zero c.args.values _ _ _ _ _ c.args.levels c.fits-values.0 c.lesser-magnitudes.ensures c.gaps-first.ensures c.gaps-second.ensures c.gaps-third.ensures c.gaps-last.ensures c.args.axis _ _ _ _ _ c.in-0.is (c.requires.levels 3)
-    c.lesser.ensures c.lesser-in-0.ensures c.lesser-in-0-2.ensures c.scaled-near.ensures c.scaled-far.ensures
+    sign_zero c.args.values _ _ _ _ _ c.args.levels c.fits-values.0 c.magnitudes_of-magnitudes.ensures.values c.near_costs-first.ensures c.near_costs-second.ensures c.near_costs-third.ensures c.near_costs-last.ensures c.args.axis _ _ _ _ c.in-0.is (c.requires.levels 3) c.lesser.ensures c.lesser-in-0.ensures c.lesser-near.ensures c.scaled-far.ensures
 
 pub returns-in-0-clause-one : goal.returns-in-0-clause-one
 returns-in-0-clause-one c =
-    sign_one c.args.values _ _ _ _ _ c.args.levels c.fits-values.0 c.lesser-magnitudes.ensures c.gaps-first.ensures c.gaps-second.ensures c.gaps-third.ensures c.gaps-last.ensures c.args.axis _ _ _ _ _ c.in-0.is (c.requires.levels 3)
-    c.lesser.ensures c.lesser-in-0.ensures c.lesser-in-0-2.ensures c.scaled-near.ensures c.scaled-far.ensures
+    sign_one c.args.values _ _ _ _ _ c.args.levels c.fits-values.0 c.magnitudes_of-magnitudes.ensures.values c.near_costs-first.ensures c.near_costs-second.ensures c.near_costs-third.ensures c.near_costs-last.ensures c.args.axis _ _ _ _ c.in-0.is (c.requires.levels 3) c.lesser.ensures c.lesser-in-0.ensures c.lesser-near.ensures c.scaled-far.ensures
 
 pub returns-in-1-clause-zero : goal.returns-in-1-clause-zero
 returns-in-1-clause-zero c =
-    outer_zero c.args.values _ _ _ _ _ c.args.levels c.fits-values.0 c.lesser-magnitudes.ensures c.gaps-first.ensures c.gaps-second.ensures c.gaps-third.ensures c.gaps-last.ensures c.args.axis c.lesser-in-1.result c.args.values c.args.values _ c.in-1.is
-    c.lesser-in-1.ensures c.scaled.ensures
+    outer_zero c.args.values _ _ _ _ _ c.args.levels c.fits-values.0 c.magnitudes_of-magnitudes.ensures.values c.near_costs-first.ensures c.near_costs-second.ensures c.near_costs-third.ensures c.near_costs-last.ensures c.args.axis c.args.values c.args.values _ c.in-1.is c.lesser-in-1.ensures
 
 pub returns-in-1-clause-one : goal.returns-in-1-clause-one
 returns-in-1-clause-one c =
-    outer_one c.args.values _ _ _ _ _ c.args.levels c.fits-values.0 c.lesser-magnitudes.ensures c.gaps-first.ensures c.gaps-second.ensures c.gaps-third.ensures c.gaps-last.ensures c.args.axis c.lesser-in-1-2.result c.args.values c.args.values _ c.in-1.is
-    c.lesser-in-1-2.ensures c.scaled-in-1.ensures
+    outer_one c.args.values _ _ _ _ _ c.args.levels c.fits-values.0 c.magnitudes_of-magnitudes.ensures.values c.near_costs-first.ensures c.near_costs-second.ensures c.near_costs-third.ensures c.near_costs-last.ensures c.args.axis c.args.values c.args.values _ c.in-1.is c.lesser-in-1-2.ensures
 
 pub returns-in_default-clause-zero : goal.returns-in_default-clause-zero
 returns-in_default-clause-zero c =
-    inner_zero c.args.values _ _ _ _ _ c.args.levels c.fits-values.0 c.lesser-magnitudes.ensures c.gaps-first.ensures c.gaps-second.ensures c.gaps-third.ensures c.gaps-last.ensures c.args.axis c.lesser-in_default.result c.args.values c.args.values _
-    (omega (arith, c.requires.axis, c.in_default)) c.lesser-in_default.ensures c.scaled-in_default.ensures
+    inner_zero c.args.values _ _ _ _ _ c.args.levels c.fits-values.0 c.magnitudes_of-magnitudes.ensures.values c.near_costs-first.ensures c.near_costs-second.ensures c.near_costs-third.ensures c.near_costs-last.ensures c.args.axis c.args.values c.args.values _ (omega (arith, c.requires.axis, c.in_default)) c.lesser-in_default.ensures
 
 pub returns-in_default-clause-one : goal.returns-in_default-clause-one
 returns-in_default-clause-one c =
-    inner_one c.args.values _ _ _ _ _ c.args.levels c.fits-values.0 c.lesser-magnitudes.ensures c.gaps-first.ensures c.gaps-second.ensures c.gaps-third.ensures c.gaps-last.ensures c.args.axis c.lesser-in_default-2.result c.args.values c.args.values _
-    (omega (arith, c.requires.axis, c.in_default)) c.lesser-in_default-2.ensures c.scaled-in_default-2.ensures
+    inner_one c.args.values _ _ _ _ _ c.args.levels c.fits-values.0 c.magnitudes_of-magnitudes.ensures.values c.near_costs-first.ensures c.near_costs-second.ensures c.near_costs-third.ensures c.near_costs-last.ensures c.args.axis c.args.values c.args.values _ (omega (arith, c.requires.axis, c.in_default)) c.lesser-in_default-2.ensures

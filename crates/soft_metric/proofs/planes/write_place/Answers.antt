@@ -1,6 +1,10 @@
 use Rattle.std.proofs.Common.{◌+◌, ◌*◌, ℕ, length, refl}
+use Rattle.soft_metric.proofs.Lanes16.{levels_above}
 use Rattle.soft_metric.proofs.Writing.{Put, lanes_put, put_writes, put_here}
 use Rattle.soft_metric.proofs.planes.write_place.Goals as goal
+
+pub write_lanes-requires-clause-above : goal.write_lanes-requires-clause-above
+write_lanes-requires-clause-above g c = levels_above c.args.axes.shape c.args.axes.hierarchy c.args.axes.levels c.requires.levels
 
 pub returns-clause-writes : goal.returns-clause-writes
 returns-clause-writes g c =
