@@ -1,4 +1,5 @@
 mod Lanes16
+mod Turning
 mod Vectors
 mod Wrapping
 mod Sides

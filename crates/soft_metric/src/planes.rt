@@ -120,6 +120,15 @@ struct Sixteen {
     weights: u16x16,
 }
 
+// Lanes with the second and the third quarter exchanged. The instructions that join parts of cells, and that make pairs,
+// do so in each half of a vector alone: what they exchange need not be put back twice.
+fn turned(lanes: u16x16) -> u16x16
+    ensures long { length result ≡ 16 }
+    ensures lanes { (k : ℕ) → k < 16 → slice_index result k ≡ slice_index lanes (k / 8 * 4 + k / 4 % 2 * 8 + k % 4) }
+{
+    lanes.swizzle([0, 1, 2, 3, 8, 9, 10, 11, 4, 5, 6, 7, 12, 13, 14, 15])
+}
+
 // Writes the weighted costs of the bit of axis number `axis` of sixteen cells.
 #[inline(always)]
 fn write_lanes<const FULL: bool>(
@@ -142,12 +151,14 @@ fn write_lanes<const FULL: bool>(
     ensures below { (k : ℕ) → k < first → pair_at to.new k ≡ pair_at to.old k }
     ensures above { (k : ℕ) → first + 16 ≤ k → pair_at to.new k ≡ pair_at to.old k }
 {
-    let (zero, one) = lane_costs(levels, axis, values);
+    let lane_values = turned(values);
+    let lane_weights = turned(weights);
+    let (zero, one) = lane_costs(levels, axis, lane_values);
     put_pairs(
         to,
         first,
-        weighed_by::<FULL>(zero, weights).to_array(),
-        weighed_by::<FULL>(one, weights).to_array(),
+        turned(weighed_by::<FULL>(zero, lane_weights)).to_array(),
+        turned(weighed_by::<FULL>(one, lane_weights)).to_array(),
     );
 }
 
