@@ -120,8 +120,8 @@ struct Sixteen {
     weights: u16x16,
 }
 
-// Lanes with the second and the third quarter exchanged. The instructions that join parts of cells, and that make pairs,
-// do so in each half of a vector alone: what they exchange need not be put back twice.
+// Lanes with the second and the third quarter exchanged. The instructions that separate the parts of cells, and those
+// that make pairs, work within halves of vectors, where this is their order: in it they need no further instruction.
 fn turned(lanes: u16x16) -> u16x16
     ensures long { length result ≡ 16 }
     ensures lanes { (k : ℕ) → k < 16 → slice_index result k ≡ slice_index lanes (k / 8 * 4 + k / 4 % 2 * 8 + k % 4) }
@@ -304,10 +304,10 @@ fn write_cells<const PLACES: u8, const FULL: bool>(
     to: &mut [(u16, u16)],
 )
     requires levels { axes.levels ≡ four_levels (levels_of axes.shape axes.hierarchy) }
-    requires places { label_bits axes.shape ≡ PLACES }
     requires weights_long { length weights.now ≡ length cells.now }
     requires weights { (k : ℕ) → k < length cells.now → slice_index weights.now k ≤ 15 }
     requires full { IsTrue FULL → (k : ℕ) → k < length weights.now → slice_index weights.now k ≡ 15 }
+    requires places { label_bits axes.shape ≡ PLACES }
     requires room { label_bits axes.shape * length cells.now ≤ length to.old }
     ensures writes { WritesCosts axes.shape axes.hierarchy cells.now weights.now to.old to.new }
     ensures here { (k e : ℕ) → k < length cells.now → e < label_bits axes.shape
@@ -332,10 +332,10 @@ fn write_by_shape<const FULL: bool>(
     to: &mut [(u16, u16)],
 )
     requires levels { axes.levels ≡ four_levels (levels_of axes.shape axes.hierarchy) }
+    requires room { label_bits axes.shape * length cells.now ≤ length to.old }
     requires weights_long { length weights.now ≡ length cells.now }
     requires weights { (k : ℕ) → k < length cells.now → slice_index weights.now k ≤ 15 }
     requires full { IsTrue FULL → (k : ℕ) → k < length weights.now → slice_index weights.now k ≡ 15 }
-    requires room { label_bits axes.shape * length cells.now ≤ length to.old }
     ensures writes { WritesCosts axes.shape axes.hierarchy cells.now weights.now to.old to.new }
     ensures here { (k e : ℕ) → k < length cells.now → e < label_bits axes.shape
         → IsWrittenAt axes.shape axes.hierarchy cells.now weights.now to.new e k }
