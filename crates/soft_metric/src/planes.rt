@@ -274,7 +274,8 @@ fn write_sixteen<const PLACES: u8, const FULL: bool>(
     write_side::<PLACES, FULL>(axes, cells, weights, of_imaginary, 1, q, to);
 }
 
-// Writes the weighted costs at all places of one cell.
+// Writes the weighted costs at all places of one cell. Not worth a copy for each constellation.
+#[inline(never)]
 fn write_one(
     shape: Shape,
     hierarchy: Hierarchy,
