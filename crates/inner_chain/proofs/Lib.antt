@@ -11,6 +11,7 @@ mod CellCosts
 mod Running
 mod StepLanes
 mod TwoSteps
+mod FourSteps
 mod Listing
 mod Fronts
 mod Quads

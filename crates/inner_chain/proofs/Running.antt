@@ -20,7 +20,7 @@ words_apart u w n l =
     omega (arith, whole)
 
 -- the same step is written where the same place is
-same_step : (n u s w z : ℕ) → s < n → z < n → s + u * n ≡ z + w * n → s ≡ z
+pub same_step : (n u s w z : ℕ) → s < n → z < n → s + u * n ≡ z + w * n → s ≡ z
 same_step n u s w z ls lz e =
     let here : u * n + s ≡ w * n + z = omega (arith, e) in
     sym (mod-mul-add u n s ls) ∙ ap (λ (y : ℕ). y % n) here ∙ mod-mul-add w n z lz

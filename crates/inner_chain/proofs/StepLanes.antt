@@ -29,32 +29,33 @@ all_fit [] e k = lit< tt
 all_fit (x ∷ xs) e zero = e.0
 all_fit (x ∷ xs) e (suc k) = all_fit xs e.1 k
 
-abbrev pub numbers_from : List ℕ → List ℕ
-numbers_from lanes = digits_l 65536 8 (number_l 256 (digits_l 256 16 (number_l 4294967296 lanes)))
+abbrev pub numbers_from : ℕ → List ℕ → List ℕ
+numbers_from n lanes = digits_l 65536 (2 * n) (number_l 256 (digits_l 256 (4 * n) (number_l 4294967296 lanes)))
 
-module _ (lanes : List ℕ) (fits : Each1 (λ x. x < 4294967296) lanes) where
+-- of n lanes
+module _ (n : ℕ) (lanes : List ℕ) (fits : Each1 (λ x. x < 4294967296) lanes) where
   abbrev bytes : List ℕ
-  bytes = digits_l 256 16 (number_l 4294967296 lanes)
+  bytes = digits_l 256 (4 * n) (number_l 4294967296 lanes)
 
-  byte_at : (j i : ℕ) → j < 4 → i < 4 → get_or bytes (4 * j + i) 0 ≡ get_or lanes j 0 / 256 ^ i % 256
-  byte_at j i k l = get_or_narrower 4294967296 4 256 16 lanes j i refl fits l (omega arith)
+  byte_at : (j i : ℕ) → j < n → i < 4 → get_or bytes (4 * j + i) 0 ≡ get_or lanes j 0 / 256 ^ i % 256
+  byte_at j i k l = get_or_narrower 4294967296 4 256 (4 * n) lanes j i refl fits l (omega (arith, k, l))
 
-  number_at : (j i : ℕ) → j < 4 → i < 2 → get_or (numbers_from lanes) (2 * j + i) 0 ≡ get_or lanes j 0 / 256 ^ (2 * i) % 256 + 256 * (get_or lanes j 0 / 256 ^ (2 * i + 1) % 256)
+  number_at : (j i : ℕ) → j < n → i < 2 → get_or (numbers_from n lanes) (2 * j + i) 0 ≡ get_or lanes j 0 / 256 ^ (2 * i) % 256 + 256 * (get_or lanes j 0 / 256 ^ (2 * i + 1) % 256)
   number_at j i k l =
-      let n : length bytes ≡ 16 = digits_len 256 16 (number_l 4294967296 lanes) in
+      let long : length bytes ≡ 4 * n = digits_len 256 (4 * n) (number_l 4294967296 lanes) in
       let a : 2 * (2 * j + i) + 0 ≡ 4 * j + 2 * i = omega arith in
       let b : 2 * (2 * j + i) + 1 ≡ 4 * j + (2 * i + 1) = omega arith in
-      get_or_wider 256 2 65536 8 bytes (2 * j + i) refl (digits_small 16 (number_l 4294967296 lanes)) (omega arith)
-      ∙ two_digits (chunk (2 * (2 * j + i)) 2 bytes) (length-chunk (2 * (2 * j + i)) 2 bytes (omega (arith, n)))
-      ∙ ap₂ (λ x y. x + 256 * y) (get_or-chunk (2 * (2 * j + i)) 2 bytes 0 0 (lit< tt) ∙ ap (λ z. get_or bytes z 0) a ∙ byte_at j (2 * i) k (omega arith))
-      (get_or-chunk (2 * (2 * j + i)) 2 bytes 1 0 (lit< tt) ∙ ap (λ z. get_or bytes z 0) b ∙ byte_at j (2 * i + 1) k (omega arith))
+      get_or_wider 256 2 65536 (2 * n) bytes (2 * j + i) refl (digits_small (4 * n) (number_l 4294967296 lanes)) (omega (arith, k, l))
+      ∙ two_digits (chunk (2 * (2 * j + i)) 2 bytes) (length-chunk (2 * (2 * j + i)) 2 bytes (omega (arith, long, k, l)))
+      ∙ ap₂ (λ x y. x + 256 * y) (get_or-chunk (2 * (2 * j + i)) 2 bytes 0 0 (lit< tt) ∙ ap (λ z. get_or bytes z 0) a ∙ byte_at j (2 * i) k (omega (arith, l)))
+      (get_or-chunk (2 * (2 * j + i)) 2 bytes 1 0 (lit< tt) ∙ ap (λ z. get_or bytes z 0) b ∙ byte_at j (2 * i + 1) k (omega (arith, l)))
 
-  pub zero_at : (k : ℕ) → k < 4 → get_or (numbers_from lanes) (2 * k) 0 ≡ get_or lanes k 0 % 65536
+  pub zero_at : (k : ℕ) → k < n → get_or (numbers_from n lanes) (2 * k) 0 ≡ get_or lanes k 0 % 65536
   zero_at k l =
       let e : 2 * k ≡ 2 * k + 0 = omega arith in
-      ap (λ z. get_or (numbers_from lanes) z 0) e ∙ number_at k 0 l (lit< tt) ∙ omega arith
+      ap (λ z. get_or (numbers_from n lanes) z 0) e ∙ number_at k 0 l (lit< tt) ∙ omega arith
 
-  pub one_at : (k : ℕ) → k < 4 → get_or (numbers_from lanes) (2 * k + 1) 0 ≡ get_or lanes k 0 / 65536
+  pub one_at : (k : ℕ) → k < n → get_or (numbers_from n lanes) (2 * k + 1) 0 ≡ get_or lanes k 0 / 65536
   one_at k l = number_at k 1 l (lit< tt) ∙ omega (arith, all_fit lanes fits k)
 
 -- ---- shuffles
@@ -83,7 +84,7 @@ module _ (costs : List (ℕ × ℕ)) (room : IsRoom costs) where
   pub back_at : (n : ℕ) → costs_in (lane_at costs n) ≡ pair_at costs n
   back_at n = costs_back (pair_at costs n) (small_at costs room n)
 
-  lane_small : (n : ℕ) → IsSmallPair (costs_in (lane_at costs n))
+  pub lane_small : (n : ℕ) → IsSmallPair (costs_in (lane_at costs n))
   lane_small n =
       let e = back_at n in
       let s = small_at costs room n in

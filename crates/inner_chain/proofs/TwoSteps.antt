@@ -9,7 +9,7 @@ use Rattle.inner_chain.specs.StepPairs.{IsInLanes, WritesSteps, word_lanes}
 use Rattle.inner_chain.proofs.Running.{words_apart}
 use Rattle.inner_chain.proofs.StepLanes.{pair_of_lanes}
 
-moved : (costs : List (ℕ × ℕ)) (x y i v w j : ℕ) (list : List CostPair) (d : CostPair) → x ≡ v → y ≡ w → i ≡ j → IsPairAt costs x y (slice_index_or list i d) → IsPairAt costs v w (slice_index_or list j d)
+pub moved : (costs : List (ℕ × ℕ)) (x y i v w j : ℕ) (list : List CostPair) (d : CostPair) → x ≡ v → y ≡ w → i ≡ j → IsPairAt costs x y (slice_index_or list i d) → IsPairAt costs v w (slice_index_or list j d)
 moved costs x y i v w j list d ex ey ei p =
     subst (λ (z : ℕ). IsPairAt costs v w (slice_index_or list z d)) ei (subst (λ (z : ℕ). IsPairAt costs v z (slice_index_or list i d)) ey (subst (λ (z : ℕ). IsPairAt costs z y (slice_index_or list i d)) ex p))
 

@@ -143,6 +143,10 @@ pub record AreWeights (m : Mode) (weights : List ℕ) : Type 0 where
   pub long : length weights ≡ carriers m
   pub small : (k : ℕ) → k < carriers m → slice_index weights k ≤ full_weight
 
+-- all weights are full
+abbrev pub AreFull : List ℕ → Type 0
+AreFull weights = (k : ℕ) → k < length weights → slice_index weights k ≡ full_weight
+
 -- the cells of the words of block b of symbol l
 pub record AreWordCells (m : Mode) (cells : List Cell) (l b : ℕ) (list : List Cell) : Type 0 where
   pub long : length list ≡ row
@@ -211,6 +215,7 @@ settings_of t = with_entry t.settings t.latest
 -- what is seen of the costs of a block
 pub record CostsState : Type 0 where
   pub mode : Mode
+  pub full : Bool
   pub costs : List (ℕ × ℕ)
 
 -- what they are found from: the carriers of the words, and space

@@ -105,6 +105,7 @@ pub(crate) fn write_symbol(
     let lp_table = tables.entries(Stream::Lp);
     let hp_steps = block_steps(&settings, Stream::Hp) as usize;
     let lp_steps = block_steps(&settings, Stream::Lp) as usize;
+    costs.begin_symbol(weights);
     for block in 0..blocks(settings.mode) {
         costs.write(&settings, metric, cells, weights, l, block);
         let list = costs.costs();

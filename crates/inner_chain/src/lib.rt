@@ -8,6 +8,7 @@ mod cost_entries;
 mod cost_pairs;
 mod cost_tables;
 mod entries;
+mod four_steps;
 mod fours;
 mod gather;
 mod label_tables;

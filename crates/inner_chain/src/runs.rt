@@ -1,11 +1,12 @@
 // Runs of words: 21 in a row, whose bits at a place of the label come in the order of the words.
-ghost use Rattle.std.specs.Prelude.{◌≡◌, ◌≢◌, ◌+◌, ◌*◌, ◌<◌, ◌≤◌, ℕ, IfSome, IsTrue, drop, length, slice_index};
+ghost use Rattle.std.specs.Prelude.{◌≡◌, ◌≢◌, ◌+◌, ◌*◌, ◌/◌, ◌<◌, ◌≤◌, ℕ, IfSome, IsTrue, drop, length, slice_index};
 ghost use Rattle.std.specs.Prelude.{slice_index_or};
 ghost use Rattle.code_paths.specs.declared.costs.CostPair.{CostPair as AnyPair};
 ghost use Rattle.inner_chain.specs.CostTables.{AreInRuns, Follows, FollowAll, IsPairAt, IsRead, IsRoom, IsSmallEntry};
-ghost use Rattle.inner_chain.specs.CostTables.{run_words};
+ghost use Rattle.inner_chain.specs.CostTables.{pair_at, run_words};
 
 use crate::cost_entries::{BLOCK_WORDS, NO_ENTRY, RUN_WORDS};
+use crate::four_steps::write_four_steps;
 use crate::step_pairs::write_two_steps;
 use conv_code::CostPair;
 
@@ -58,13 +59,13 @@ fn is_run(entries: &[u16], steps: usize, run: usize) -> bool
     true
 }
 
-// The steps of a word, if the entries of a block are in runs.
+// The steps of a word, if the entries of a block are in runs, and there are some.
 pub(crate) fn steps_of_word(entries: &[u16]) -> Option<usize>
     requires { length entries.now ≤ 65536 }
     ensures { IfSome result (λ n. AreInRuns n entries.now) }
 {
     let steps = entries.len() / (2 * BLOCK_WORDS);
-    if entries.len() != 2 * (BLOCK_WORDS * steps) {
+    if steps == 0 || entries.len() != 2 * (BLOCK_WORDS * steps) {
         return None;
     }
     for run in 0..RUNS {
@@ -119,8 +120,52 @@ fn entries_of(entries: &[u16], step: usize) -> (usize, usize)
     (entries[2 * step] as usize, entries[2 * step + 1] as usize)
 }
 
+// The entries of four steps.
+fn four_entries(entries: &[u16], step: usize) -> [(usize, usize); 4]
+    requires { 2 * (step + 3) + 1 < length entries.now }
+    ensures { (s : ℕ) → s < 4 → pair_at result s ≡ (
+      slice_index entries.now (2 * (step + s)),
+      slice_index entries.now (2 * (step + s) + 1),
+    ) }
+{
+    [
+        entries_of(entries, step),
+        entries_of(entries, step + 1),
+        entries_of(entries, step + 2),
+        entries_of(entries, step + 3),
+    ]
+}
+
+// Writes the pairs of the steps of the words of a run, four steps at once while as many remain.
+fn write_fours(
+    costs: &[(u16, u16)],
+    entries: &[u16],
+    start: usize,
+    steps: usize,
+    first: usize,
+    to: &mut [CostPair],
+)
+    requires costs { IsRoom costs.now }
+    requires entries { (k : ℕ) → k < length entries.now → IsSmallEntry (slice_index entries.now k) }
+    requires within { 2 * (start + steps) ≤ length entries.now }
+    requires steps { steps ≤ 65536 }
+    requires room { first + 21 * steps ≤ length to.old }
+    ensures here { (u s : ℕ) (d : AnyPair) → u < run_words → s < 4 * (steps / 4) → IsPairAt costs.now
+        (slice_index entries.now (2 * (start + s)) + u) (slice_index entries.now (2 * (start + s) + 1) + u)
+        (slice_index_or to.new (first + s + u * steps) d) }
+    ensures before { (k : ℕ) (d : AnyPair) → k < first → slice_index_or to.new k d ≡ slice_index_or to.old k d }
+    ensures rest { (k : ℕ) → first + 21 * steps ≤ k → drop k to.new ≡ drop k to.old }
+    ensures long { length to.new ≡ length to.old }
+{
+    for four in 0..steps / 4 {
+        let step = 4 * four;
+        let here = four_entries(entries, start + step);
+        write_four_steps(costs, &here, steps, first + step, to);
+    }
+}
+
 // Writes the pairs of all steps of the words of a run, whose first word has the entries from those of step `start` on.
-// They are written by two steps, and the last of an odd number by itself.
+// They are written by four steps, then by two, and the last of an odd number by itself.
 fn write_words(
     costs: &[(u16, u16)],
     entries: &[u16],
@@ -141,7 +186,8 @@ fn write_words(
     ensures rest { (k : ℕ) → first + 21 * steps ≤ k → drop k to.new ≡ drop k to.old }
     ensures long { length to.new ≡ length to.old }
 {
-    for half in 0..steps / 2 {
+    write_fours(costs, entries, start, steps, first, to);
+    for half in 2 * (steps / 4)..steps / 2 {
         let step = 2 * half;
         let here = entries_of(entries, start + step);
         let next = entries_of(entries, start + step + 1);

@@ -18,7 +18,7 @@ fn lane_of(costs: (u16, u16)) -> u32
 
 // The costs at four entries in a row.
 #[inline(always)]
-fn four_lanes(costs: &[(u16, u16)], first: usize) -> u32x4
+pub(crate) fn four_lanes(costs: &[(u16, u16)], first: usize) -> u32x4
     requires { first + 4 ≤ length costs.now }
     ensures { result ≡ four_lanes costs.now first }
 {

@@ -1,4 +1,5 @@
 use Rattle.std.proofs.Common.{◌≡◌, ◌∙◌, ◌*◌, ◌≤◌, ℕ, List, length, sym, ap, subst, arith}
+use Rattle.std.specs.Prelude.{IsTrue}
 use Rattle.mode_set.specs.StreamTable.{need}
 use Rattle.mode_set.specs.declared.modes.Stream.TheVariants.{Hp, Lp}
 use Rattle.mode_set.specs.declared.settings.Settings.{Settings}
@@ -18,6 +19,7 @@ loop-block-preserved c =
     let lp_steps : c.block_steps-lp_steps.result ≡ block_steps s Lp = c.block_steps-lp_steps.ensures.steps in
     record {
       mode = c.write.ensures.mode ∙ c.loop-block.invariant.mode;
+      full = λ t. c.loop-block.invariant.full (subst IsTrue c.write.ensures.full t);
       hp = block_more c.periods_shift.ensures s c.args.cells.now c.args.weights.now c.args.l c.loop-block.block Hp c.costs-list.result.now c.entries-hp_table.result.0.now (c.loop-block.block * c.block_steps-hp_steps.result) c.block_steps-hp_steps.result _ _ _
           (ap (λ (z : ℕ). c.loop-block.block * z) hp_steps) hp_steps costs room hp_entries c.loop-block.invariant.hp c.write_pairs.ensures.here c.write_pairs.ensures.before c.write_pairs.ensures.rest c.write_pairs.ensures.long;
       lp = block_more c.periods_shift.ensures s c.args.cells.now c.args.weights.now c.args.l c.loop-block.block Lp c.costs-list.result.now c.entries-lp_table.result.0.now (c.loop-block.block * c.block_steps-lp_steps.result) c.block_steps-lp_steps.result _ _ _

@@ -4,7 +4,7 @@ use Rattle.inner_chain.proofs.StepLanes.{one_at, zero_at}
 use Rattle.inner_chain.proofs.step_pairs.costs_of.Goals as goal
 
 pub returns-clause-zero : goal.returns-clause-zero
-returns-clause-zero c = zero_at c.args.lanes (below_from_Fits w32 c.args.lanes c.fits-lanes.1)
+returns-clause-zero c = zero_at 4 c.args.lanes (below_from_Fits w32 c.args.lanes c.fits-lanes.1)
 
 pub returns-clause-one : goal.returns-clause-one
-returns-clause-one c = one_at c.args.lanes (below_from_Fits w32 c.args.lanes c.fits-lanes.1)
+returns-clause-one c = one_at 4 c.args.lanes (below_from_Fits w32 c.args.lanes c.fits-lanes.1)
