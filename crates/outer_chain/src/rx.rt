@@ -24,6 +24,9 @@ const LAST: usize = 203;
 /// The bytes of a word.
 const WORD: usize = 204;
 
+/// The bytes of a round, one for each branch of the interleaver and for each word that is being filled.
+const ROUND: usize = 12;
+
 /// The bytes of the twelve words that are being filled.
 const WORDS: usize = 2448;
 
@@ -111,21 +114,74 @@ fn place_after(place: usize) -> usize
     }
 }
 
-// Puts bytes where they stand in their words, and gives the place of the next one.
+// Puts bytes where they stand in their words, up to the first word of the twelve at most, and gives the place of the
+// next one. Each place but the last is 203 above the one after it, so none is compared with the end of the twelve words.
+#[inline(always)]
+fn put_falling(words: &mut [u8], next: usize, bytes: &[u8]) -> usize
+    requires twelve { length words.old ≡ 2448 }
+    requires next { next < 2448 }
+    requires falls { 203 * length bytes.now ≤ next + 203 }
+    ensures size { length words.new ≡ 2448 }
+    ensures next { result ≡ (next + 2245 * length bytes.now) % 2448 }
+    ensures holds { (before : List ℕ) → Holds words.old next before → Holds words.new result (before ++ bytes.now) }
+{
+    for byte in 0..bytes.len() {
+        words[next - LAST * byte] = bytes[byte];
+    }
+    let fall = LAST * bytes.len();
+    if fall <= next {
+        next - fall
+    } else {
+        next + WORDS - fall
+    }
+}
+
+// Puts bytes by rounds of twelve, one for each of the twelve words from the last to the first, and gives the place of the
+// next byte.
+fn put_rounds(words: &mut [u8], next: usize, bytes: &[u8]) -> usize
+    requires twelve { length words.old ≡ 2448 }
+    requires next { next < 2448 }
+    requires rounds { length bytes.now % 12 ≡ 0 }
+    requires last { 0 < length bytes.now → 2244 ≤ next }
+    requires within { next + length bytes.now ≤ 2448 }
+    ensures size { length words.new ≡ 2448 }
+    ensures next { result ≡ (next + length bytes.now) % 2448 }
+    ensures holds { (before : List ℕ) → Holds words.old next before → Holds words.new result (before ++ bytes.now) }
+{
+    for round in 0..bytes.len() / ROUND {
+        let taken = ROUND * round;
+        put_falling(words, next + taken, &bytes[taken..taken + ROUND]);
+    }
+    let after = next + bytes.len();
+    if after == WORDS { 0 } else { after }
+}
+
+// How many of so many bytes come before the next one for the last of the twelve words.
+fn before_last(next: usize, number: usize) -> usize
+    requires next { next < 2448 }
+    ensures most { result ≤ number }
+    ensures falls { 203 * result ≤ next + 203 }
+    ensures last { result < number → 2244 ≤ (next + 2245 * result) % 2448 }
+{
+    let before = if next < FIRST { next / LAST + 1 } else { 0 };
+    if before < number { before } else { number }
+}
+
+// Puts bytes where they stand in their words, none of them after the end of its word, and gives the place of the next one.
 fn put_each(words: &mut [u8], next: usize, bytes: &[u8]) -> usize
     requires twelve { length words.old ≡ 2448 }
     requires next { next < 2448 }
+    requires within { next % 204 + length bytes.now ≤ 204 }
     ensures size { length words.new ≡ 2448 }
     ensures next { result < 2448 }
     ensures place { result % 204 ≡ (next + length bytes.now) % 204 }
     ensures holds { (before : List ℕ) → Holds words.old next before → Holds words.new result (before ++ bytes.now) }
 {
-    let mut place = next;
-    for byte in bytes {
-        words[place] = *byte;
-        place = place_after(place);
-    }
-    place
+    let first = before_last(next, bytes.len());
+    let last = bytes.len() - (bytes.len() - first) % ROUND;
+    let place = put_falling(words, next, &bytes[..first]);
+    let place = put_rounds(words, place, &bytes[first..last]);
+    put_falling(words, place, &bytes[last..])
 }
 
 // The word that begins at this place.
