@@ -26,20 +26,14 @@ holds_run words next after i before bytes small l e h =
     subst (Holds (set words next byte) after) (append_assoc before (take i bytes) (byte ∷ []) ∙ ap (λ z. before ++ z) (sym (take_more bytes i 0 l)))
     (holds_byte words next after byte (before ++ take i bytes) small e h)
 
--- some bytes and then the next ones
-joined : (n more all : ℕ) (before bytes : List ℕ) → n + more ≡ all → (before ++ take n bytes) ++ take more (drop n bytes) ≡ before ++ take all bytes
-joined n more all before bytes e =
-    append_assoc before (take n bytes) (take more (drop n bytes)) ∙ ap (λ z. before ++ z) (sym (take-add n more bytes)) ∙ ap (λ m. before ++ take m bytes) e
-
+-- some bytes, and then the next ones or all others
 pub holds_part : (words : List ℕ) (place n more all : ℕ) (before bytes : List ℕ) → n + more ≡ all → Holds words place ((before ++ take n bytes) ++ take more (drop n bytes)) → Holds words place (before ++ take all bytes)
-holds_part words place n more all before bytes e = subst (Holds words place) (joined n more all before bytes e)
+holds_part words place n more all before bytes e =
+    subst (Holds words place) (append_assoc before (take n bytes) (take more (drop n bytes)) ∙ ap (λ z. before ++ z) (sym (take-add n more bytes)) ∙ ap (λ m. before ++ take m bytes) e)
 
-pub holds_parts : (words : List ℕ) (place first last more : ℕ) (before bytes : List ℕ) → first ≤ last → last + more ≡ length bytes
-    → Holds words place (((before ++ take first bytes) ++ take (last - first) (drop first bytes)) ++ take more (drop last bytes)) → Holds words place (before ++ bytes)
-holds_parts words place first last more before bytes l e h =
-    subst (λ z. Holds words place (before ++ z)) (take_all (length bytes) bytes (omega arith))
-    (holds_part words place last more (length bytes) before bytes e
-    (subst (λ z. Holds words place (z ++ take more (drop last bytes))) (joined first (last - first) last before bytes (omega (arith, l))) h))
+pub holds_rest : (words : List ℕ) (place n more : ℕ) (before bytes : List ℕ) → n + more ≡ length bytes → Holds words place ((before ++ take n bytes) ++ take more (drop n bytes)) → Holds words place (before ++ bytes)
+holds_rest words place n more before bytes e h =
+    subst (λ z. Holds words place (before ++ z)) (take_all (length bytes) bytes (omega arith)) (holds_part words place n more (length bytes) before bytes e h)
 
 pub length_part : (n more : ℕ) (bytes : List ℕ) → n + more ≤ length bytes → length (take more (drop n bytes)) ≡ more
 length_part n more bytes l = length-take-le more (drop n bytes) (omega (arith, l, length-drop n bytes))

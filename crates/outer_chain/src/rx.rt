@@ -114,60 +114,103 @@ fn place_after(place: usize) -> usize
     }
 }
 
-// Puts bytes where they stand in their words, up to the first word of the twelve at most, and gives the place of the
-// next one. Each place but the last is 203 above the one after it, so none is compared with the end of the twelve words.
+// Puts bytes where they stand in their words one by one, and gives the place of the next one.
+fn put_singly(words: &mut [u8], next: usize, bytes: &[u8]) -> usize
+    requires twelve { length words.old ≡ 2448 }
+    requires next { next < 2448 }
+    ensures size { length words.new ≡ 2448 }
+    ensures next { result < 2448 }
+    ensures place { result % 204 ≡ (next + length bytes.now) % 204 }
+    ensures holds { (before : List ℕ) → Holds words.old next before → Holds words.new result (before ++ bytes.now) }
+{
+    let mut place = next;
+    for byte in bytes {
+        words[place] = *byte;
+        place = place_after(place);
+    }
+    place
+}
+
+// Puts bytes where they stand in their words, up to the first of the twelve words at most. Each place is 203 below the
+// one before, so none is compared with the end of the words.
 #[inline(always)]
-fn put_falling(words: &mut [u8], next: usize, bytes: &[u8]) -> usize
+fn put_falling(words: &mut [u8], next: usize, bytes: &[u8])
     requires twelve { length words.old ≡ 2448 }
     requires next { next < 2448 }
     requires falls { 203 * length bytes.now ≤ next + 203 }
     ensures size { length words.new ≡ 2448 }
-    ensures next { result ≡ (next + 2245 * length bytes.now) % 2448 }
-    ensures holds { (before : List ℕ) → Holds words.old next before → Holds words.new result (before ++ bytes.now) }
+    ensures holds { (before : List ℕ) → Holds words.old next before
+        → Holds words.new ((next + 2245 * length bytes.now) % 2448) (before ++ bytes.now) }
 {
     for byte in 0..bytes.len() {
         words[next - LAST * byte] = bytes[byte];
     }
-    let fall = LAST * bytes.len();
-    if fall <= next {
-        next - fall
-    } else {
-        next + WORDS - fall
+}
+
+// Puts the bytes of a round, the first of them in word `FROM` of the twelve, from where the others go down to the first
+// word and on from the last one. All their distances are known to the compiler.
+#[inline(always)]
+fn put_round<const FROM: usize>(words: &mut [u8], next: usize, bytes: &[u8])
+    requires twelve { length words.old ≡ 2448 }
+    requires from { FROM < 12 }
+    requires above { 204 * FROM ≤ next }
+    requires below { next + 12 ≤ 204 * FROM + 204 }
+    requires round { length bytes.now ≡ 12 }
+    ensures size { length words.new ≡ 2448 }
+    ensures holds { (before : List ℕ) → Holds words.old next before
+        → Holds words.new ((next + 12) % 2448) (before ++ bytes.now) }
+{
+    put_falling(words, next, &bytes[..FROM + 1]);
+    if FROM + 1 < ROUND {
+        put_falling(words, next + WORDS - LAST * (FROM + 1), &bytes[FROM + 1..]);
     }
 }
 
-// Puts bytes by rounds of twelve, one for each of the twelve words from the last to the first, and gives the place of the
-// next byte.
-fn put_rounds(words: &mut [u8], next: usize, bytes: &[u8]) -> usize
+// Puts the bytes of rounds, the first of each in word `FROM` of the twelve.
+fn put_rounds<const FROM: usize>(words: &mut [u8], next: usize, bytes: &[u8])
     requires twelve { length words.old ≡ 2448 }
-    requires next { next < 2448 }
+    requires from { FROM < 12 }
+    requires above { 204 * FROM ≤ next }
+    requires below { next + length bytes.now ≤ 204 * FROM + 204 }
     requires rounds { length bytes.now % 12 ≡ 0 }
-    requires last { 0 < length bytes.now → 2244 ≤ next }
-    requires within { next + length bytes.now ≤ 2448 }
     ensures size { length words.new ≡ 2448 }
-    ensures next { result ≡ (next + length bytes.now) % 2448 }
-    ensures holds { (before : List ℕ) → Holds words.old next before → Holds words.new result (before ++ bytes.now) }
+    ensures holds { (before : List ℕ) → Holds words.old next before
+        → Holds words.new ((next + length bytes.now) % 2448) (before ++ bytes.now) }
 {
     for round in 0..bytes.len() / ROUND {
         let taken = ROUND * round;
-        put_falling(words, next + taken, &bytes[taken..taken + ROUND]);
+        put_round::<FROM>(words, next + taken, &bytes[taken..taken + ROUND]);
     }
-    let after = next + bytes.len();
-    if after == WORDS { 0 } else { after }
 }
 
-// How many of so many bytes come before the next one for the last of the twelve words.
-fn before_last(next: usize, number: usize) -> usize
+// Puts the bytes of rounds, none of them after the end of its word.
+fn put_rounds_from(words: &mut [u8], next: usize, bytes: &[u8])
+    requires twelve { length words.old ≡ 2448 }
     requires next { next < 2448 }
-    ensures most { result ≤ number }
-    ensures falls { 203 * result ≤ next + 203 }
-    ensures last { result < number → 2244 ≤ (next + 2245 * result) % 2448 }
+    requires within { next % 204 + length bytes.now ≤ 204 }
+    requires rounds { length bytes.now % 12 ≡ 0 }
+    ensures size { length words.new ≡ 2448 }
+    ensures holds { (before : List ℕ) → Holds words.old next before
+        → Holds words.new ((next + length bytes.now) % 2448) (before ++ bytes.now) }
 {
-    let before = if next < FIRST { next / LAST + 1 } else { 0 };
-    if before < number { before } else { number }
+    match next / WORD {
+        0 => put_rounds::<0>(words, next, bytes),
+        1 => put_rounds::<1>(words, next, bytes),
+        2 => put_rounds::<2>(words, next, bytes),
+        3 => put_rounds::<3>(words, next, bytes),
+        4 => put_rounds::<4>(words, next, bytes),
+        5 => put_rounds::<5>(words, next, bytes),
+        6 => put_rounds::<6>(words, next, bytes),
+        7 => put_rounds::<7>(words, next, bytes),
+        8 => put_rounds::<8>(words, next, bytes),
+        9 => put_rounds::<9>(words, next, bytes),
+        10 => put_rounds::<10>(words, next, bytes),
+        _ => put_rounds::<11>(words, next, bytes),
+    }
 }
 
-// Puts bytes where they stand in their words, none of them after the end of its word, and gives the place of the next one.
+// Puts bytes where they stand in their words, none of them after the end of its word, and gives the place of the next
+// one: whole rounds at once, and the bytes after them one by one.
 fn put_each(words: &mut [u8], next: usize, bytes: &[u8]) -> usize
     requires twelve { length words.old ≡ 2448 }
     requires next { next < 2448 }
@@ -177,11 +220,11 @@ fn put_each(words: &mut [u8], next: usize, bytes: &[u8]) -> usize
     ensures place { result % 204 ≡ (next + length bytes.now) % 204 }
     ensures holds { (before : List ℕ) → Holds words.old next before → Holds words.new result (before ++ bytes.now) }
 {
-    let first = before_last(next, bytes.len());
-    let last = bytes.len() - (bytes.len() - first) % ROUND;
-    let place = put_falling(words, next, &bytes[..first]);
-    let place = put_rounds(words, place, &bytes[first..last]);
-    put_falling(words, place, &bytes[last..])
+    let whole = bytes.len() - bytes.len() % ROUND;
+    put_rounds_from(words, next, &bytes[..whole]);
+    let place = next + whole;
+    let place = if place < WORDS { place } else { 0 };
+    put_singly(words, place, &bytes[whole..])
 }
 
 // The word that begins at this place.
