@@ -131,8 +131,8 @@ fn put_singly(words: &mut [u8], next: usize, bytes: &[u8]) -> usize
     place
 }
 
-// Puts bytes where they stand in their words, none of them after one in the first of the twelve words. Each place is then
-// 203 below the one before, and none has to be compared.
+// Puts bytes where they stand in their words, none of them after one in the first of the twelve words. Each place is
+// then 203 below the one before, and none has to be compared.
 #[inline(always)]
 fn put_falling(words: &mut [u8], next: usize, bytes: &[u8])
     requires twelve { length words.old ≡ 2448 }
@@ -147,8 +147,8 @@ fn put_falling(words: &mut [u8], next: usize, bytes: &[u8])
     }
 }
 
-// Puts the bytes of a round: the first into word `FROM` of the twelve, each other one into the word before. The last word
-// comes before the first, and as `FROM` is a constant the compiler knows where that is.
+// Puts the bytes of a round: the first into word `FROM` of the twelve, each other one into the word before. The last
+// word comes before the first, and as `FROM` is a constant the compiler knows where that is.
 #[inline(always)]
 fn put_round<const FROM: usize>(words: &mut [u8], next: usize, bytes: &[u8])
     requires twelve { length words.old ≡ 2448 }
