@@ -1,9 +1,9 @@
 -- A receiver that takes some bytes of a word.
 use Rattle.std.proofs.Common.{◌≡◌, ℕ, ◌+◌, ◌-◌, ◌*◌, ◌/◌, ◌%◌, ◌<◌, ◌≤◌, inl, inr, ◌⊎◌, List, [], ◌∷◌, ◌++◌, length, get_or, take, drop, set, refl, sym, ◌∙◌, ap, subst, arith, append_assoc, length-append, length-take-le, length-drop, ext_get_or}
-use Rattle.std.proofs.Math.Seq.{take-append_seam}
+use Rattle.std.proofs.Math.Seq.{take-append_seam, take-add}
 use Rattle.std.specs.Prelude.{Option, None}
 use Rattle.std.proofs.lemmas.Bool.{cases_lt}
-use Rattle.std.proofs.lemmas.List.{get_or-take, get_or-drop, take_more}
+use Rattle.std.proofs.lemmas.List.{get_or-take, get_or-drop, take_more, take_all}
 use Rattle.forney.specs.Values.{values, stream_of}
 use Rattle.forney.specs.Interleaving.{deinterleaved}
 use Rattle.forney.proofs.ValueLists.{length-values, get_or-values}
@@ -25,6 +25,18 @@ holds_run words next after i before bytes small l e h =
     let byte = get_or bytes i 0 in
     subst (Holds (set words next byte) after) (append_assoc before (take i bytes) (byte ∷ []) ∙ ap (λ z. before ++ z) (sym (take_more bytes i 0 l)))
     (holds_byte words next after byte (before ++ take i bytes) small e h)
+
+-- some bytes, and then the next ones or all others
+pub holds_part : (words : List ℕ) (place n more all : ℕ) (before bytes : List ℕ) → n + more ≡ all → Holds words place ((before ++ take n bytes) ++ take more (drop n bytes)) → Holds words place (before ++ take all bytes)
+holds_part words place n more all before bytes e =
+    subst (Holds words place) (append_assoc before (take n bytes) (take more (drop n bytes)) ∙ ap (λ z. before ++ z) (sym (take-add n more bytes)) ∙ ap (λ m. before ++ take m bytes) e)
+
+pub holds_rest : (words : List ℕ) (place n more : ℕ) (before bytes : List ℕ) → n + more ≡ length bytes → Holds words place ((before ++ take n bytes) ++ take more (drop n bytes)) → Holds words place (before ++ bytes)
+holds_rest words place n more before bytes e h =
+    subst (λ z. Holds words place (before ++ z)) (take_all (length bytes) bytes (omega arith)) (holds_part words place n more (length bytes) before bytes e h)
+
+pub length_part : (n more : ℕ) (bytes : List ℕ) → n + more ≤ length bytes → length (take more (drop n bytes)) ≡ more
+length_part n more bytes l = length-take-le more (drop n bytes) (omega (arith, l, length-drop n bytes))
 
 -- the bytes of a vector that a slice of its length was written over
 pub written_over : (items bytes : List ℕ) (len : ℕ) → length bytes ≡ len → take len (bytes ++ drop (length bytes) items) ≡ bytes

@@ -18,3 +18,10 @@ place_apart p n l m e = omega (arith, l, m, e, place_line p, place_line n)
 -- where byte j of word w stands, the words of the start-up counted, by the byte of the stream that it is
 pub place_within : (w j : ℕ) → j < 204 → 11 ≤ w → place_of (204 * (w - 11 + j % 12) + j) ≡ 204 * (w % 12) + j
 place_within w j l m = omega (arith, l, m)
+
+-- places of a run that does not pass the first of the twelve words
+pub fallen : (next i : ℕ) → 203 * i ≤ next → next < 2448 → (next + 2245 * i) % 2448 ≡ next - 203 * i
+fallen next i l m = omega (arith, l, m)
+
+pub fallen_on : (next i : ℕ) → 203 * i ≤ next → next < 2448 → (next + 2245 * (i + 1)) % 2448 ≡ (next - 203 * i + 2245) % 2448
+fallen_on next i l m = omega (arith, l, m)

@@ -24,6 +24,9 @@ const LAST: usize = 203;
 /// The bytes of a word.
 const WORD: usize = 204;
 
+/// The bytes of a round, one for each branch of the interleaver and for each word that is being filled.
+const ROUND: usize = 12;
+
 /// The bytes of the twelve words that are being filled.
 const WORDS: usize = 2448;
 
@@ -111,8 +114,8 @@ fn place_after(place: usize) -> usize
     }
 }
 
-// Puts bytes where they stand in their words, and gives the place of the next one.
-fn put_each(words: &mut [u8], next: usize, bytes: &[u8]) -> usize
+// Puts bytes where they stand in their words one by one, and gives the place of the next one.
+fn put_singly(words: &mut [u8], next: usize, bytes: &[u8]) -> usize
     requires twelve { length words.old ≡ 2448 }
     requires next { next < 2448 }
     ensures size { length words.new ≡ 2448 }
@@ -126,6 +129,102 @@ fn put_each(words: &mut [u8], next: usize, bytes: &[u8]) -> usize
         place = place_after(place);
     }
     place
+}
+
+// Puts bytes where they stand in their words, none of them after one in the first of the twelve words. Each place is
+// then 203 below the one before, and none has to be compared.
+#[inline(always)]
+fn put_falling(words: &mut [u8], next: usize, bytes: &[u8])
+    requires twelve { length words.old ≡ 2448 }
+    requires next { next < 2448 }
+    requires falls { 203 * length bytes.now ≤ next + 203 }
+    ensures size { length words.new ≡ 2448 }
+    ensures holds { (before : List ℕ) → Holds words.old next before
+        → Holds words.new ((next + 2245 * length bytes.now) % 2448) (before ++ bytes.now) }
+{
+    for byte in 0..bytes.len() {
+        words[next - LAST * byte] = bytes[byte];
+    }
+}
+
+// Puts the bytes of a round: the first into word `FROM` of the twelve, each other one into the word before. The last
+// word comes before the first, and as `FROM` is a constant the compiler knows where that is.
+#[inline(always)]
+fn put_round<const FROM: usize>(words: &mut [u8], next: usize, bytes: &[u8])
+    requires twelve { length words.old ≡ 2448 }
+    requires from { FROM < 12 }
+    requires above { 204 * FROM ≤ next }
+    requires below { next + 12 ≤ 204 * FROM + 204 }
+    requires round { length bytes.now ≡ 12 }
+    ensures size { length words.new ≡ 2448 }
+    ensures holds { (before : List ℕ) → Holds words.old next before
+        → Holds words.new ((next + 12) % 2448) (before ++ bytes.now) }
+{
+    put_falling(words, next, &bytes[..FROM + 1]);
+    if FROM + 1 < ROUND {
+        put_falling(words, next + WORDS - LAST * (FROM + 1), &bytes[FROM + 1..]);
+    }
+}
+
+// Puts the bytes of rounds, the first of each in word `FROM` of the twelve.
+fn put_rounds<const FROM: usize>(words: &mut [u8], next: usize, bytes: &[u8])
+    requires twelve { length words.old ≡ 2448 }
+    requires from { FROM < 12 }
+    requires above { 204 * FROM ≤ next }
+    requires below { next + length bytes.now ≤ 204 * FROM + 204 }
+    requires rounds { length bytes.now % 12 ≡ 0 }
+    ensures size { length words.new ≡ 2448 }
+    ensures holds { (before : List ℕ) → Holds words.old next before
+        → Holds words.new ((next + length bytes.now) % 2448) (before ++ bytes.now) }
+{
+    for round in 0..bytes.len() / ROUND {
+        let taken = ROUND * round;
+        put_round::<FROM>(words, next + taken, &bytes[taken..taken + ROUND]);
+    }
+}
+
+// Puts the bytes of rounds, none of them after the end of its word.
+fn put_rounds_from(words: &mut [u8], next: usize, bytes: &[u8])
+    requires twelve { length words.old ≡ 2448 }
+    requires next { next < 2448 }
+    requires within { next % 204 + length bytes.now ≤ 204 }
+    requires rounds { length bytes.now % 12 ≡ 0 }
+    ensures size { length words.new ≡ 2448 }
+    ensures holds { (before : List ℕ) → Holds words.old next before
+        → Holds words.new ((next + length bytes.now) % 2448) (before ++ bytes.now) }
+{
+    match next / WORD {
+        0 => put_rounds::<0>(words, next, bytes),
+        1 => put_rounds::<1>(words, next, bytes),
+        2 => put_rounds::<2>(words, next, bytes),
+        3 => put_rounds::<3>(words, next, bytes),
+        4 => put_rounds::<4>(words, next, bytes),
+        5 => put_rounds::<5>(words, next, bytes),
+        6 => put_rounds::<6>(words, next, bytes),
+        7 => put_rounds::<7>(words, next, bytes),
+        8 => put_rounds::<8>(words, next, bytes),
+        9 => put_rounds::<9>(words, next, bytes),
+        10 => put_rounds::<10>(words, next, bytes),
+        _ => put_rounds::<11>(words, next, bytes),
+    }
+}
+
+// Puts bytes where they stand in their words, none of them after the end of its word, and gives the place of the next
+// one: whole rounds at once, and the bytes after them one by one.
+fn put_each(words: &mut [u8], next: usize, bytes: &[u8]) -> usize
+    requires twelve { length words.old ≡ 2448 }
+    requires next { next < 2448 }
+    requires within { next % 204 + length bytes.now ≤ 204 }
+    ensures size { length words.new ≡ 2448 }
+    ensures next { result < 2448 }
+    ensures place { result % 204 ≡ (next + length bytes.now) % 204 }
+    ensures holds { (before : List ℕ) → Holds words.old next before → Holds words.new result (before ++ bytes.now) }
+{
+    let whole = bytes.len() - bytes.len() % ROUND;
+    put_rounds_from(words, next, &bytes[..whole]);
+    let place = next + whole;
+    let place = if place < WORDS { place } else { 0 };
+    put_singly(words, place, &bytes[whole..])
 }
 
 // The word that begins at this place.

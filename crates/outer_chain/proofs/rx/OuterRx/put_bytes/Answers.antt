@@ -1,4 +1,4 @@
-use Rattle.std.proofs.Common.{◌≡◌, ◌≤◌, ◌+◌, ◌-◌, ◌++◌, ◌∷◌, ◌%◌, [], List, ℕ, length, take, drop, sym, ◌∙◌, ap, subst, arith}
+use Rattle.std.proofs.Common.{◌≡◌, ◌+◌, ◌-◌, ◌++◌, ◌∷◌, ◌%◌, [], List, ℕ, length, take, drop, sym, ◌∙◌, ap, subst, arith}
 use Rattle.outer_chain.specs.Words.{word_count}
 use Rattle.outer_chain.specs.Receiving.{Receiver, Receives, Holds}
 use Rattle.outer_chain.proofs.Taking.{made_of, slot_of}

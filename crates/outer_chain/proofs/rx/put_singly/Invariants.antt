@@ -1,6 +1,6 @@
 use Rattle.std.proofs.Common.{◌≡◌, ◌+◌, ◌%◌, ◌<◌, ◌++◌, ℕ, List, length, take}
 use Rattle.outer_chain.specs.Receiving.{Holds}
-use Rattle.outer_chain.proofs.rx.put_each.Given as goal
+use Rattle.outer_chain.proofs.rx.put_singly.Given as goal
 
 abbrev pub invariant-loop-byte : goal.invariant-loop-byte
 invariant-loop-byte l = record {
