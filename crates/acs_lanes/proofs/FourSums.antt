@@ -1,18 +1,18 @@
 -- The sums of four steps' costs, each step's in one word.
-use Rattle.std.proofs.Common.{◌≡◌, ℕ, zero, suc, ◌+◌, ◌-◌, ◌*◌, ◌/◌, ◌%◌, ◌^◌, ◌<◌, ◌≤◌, ◌⊎◌, inl, inr, List, [], ◌∷◌, ◌++◌, map, length, get_or, refl, sym, ap, ap₂, ◌∙◌, subst, arith, lit<}
+use Rattle.std.proofs.Common.{◌≡◌, ℕ, zero, suc, ◌+◌, ◌-◌, ◌*◌, ◌/◌, ◌%◌, ◌<◌, ◌≤◌, ◌⊎◌, inl, inr, List, [], ◌∷◌, ◌++◌, map, length, get_or, refl, sym, ap, ap₂, ◌∙◌, subst, arith, lit<}
 use Rattle.std.proofs.lemmas.Bool.{cases_lt}
 use Rattle.std.proofs.lemmas.Grind.{same_number_lists}
 use Rattle.std.specs.Simd.Lanes.{zip2, Each1}
 use Rattle.code_paths.specs.declared.costs.CostPair.{CostPair}
 use Rattle.acs_lanes.specs.Lanes.{four}
 use Rattle.acs_lanes.specs.Lanes16.{word_of}
-use Rattle.acs_lanes.specs.Phases.{IsLow, both_sums, sum_word}
+use Rattle.acs_lanes.specs.Phases.{IsLow, all_sums, sum_word}
 use Rattle.std.specs.Prelude.{slice_index, max}
 use Rattle.std.specs.List.{range_with_len}
 use Rattle.acs_lanes.proofs.Costs16.{lanes_of, pair_fits, pair_part, sums_are}
 use Rattle.acs_lanes.proofs.Laid.{at_range}
 use Rattle.acs_lanes.proofs.Rows16.{same_default}
-use Rattle.acs_lanes.proofs.WordParts.{four_by, lane_at, lanes_from, lanes_len, part_is, word_at, word_fits, words_from, words_len}
+use Rattle.acs_lanes.proofs.WordParts.{four_by, lane_at, lanes_from, lanes_len, parts_repeated, word_at, words_from, words_len}
 
 -- ---- one word in all lanes
 
@@ -32,11 +32,9 @@ module _ (pair : CostPair) where
   four_fit : Each1 (λ x. x < 65536) (four pair)
   four_fit = (x0y0, (x0y1, (x1y0, (x1y1, tt))))
 
-  sum_fits : sum_word pair < 18446744073709551616
-  sum_fits = word_fits (pair.x0 + pair.y0) (pair.x0 + pair.y1) (pair.x1 + pair.y0) (pair.x1 + pair.y1) x0y0 x0y1 x1y0 x1y1
-
-  sum_part : (i : ℕ) → i < 4 → sum_word pair / 256 ^ (2 * i) % 256 + 256 * (sum_word pair / 256 ^ (2 * i + 1) % 256) ≡ get_or (four pair) i 0
-  sum_part = part_is (pair.x0 + pair.y0) (pair.x0 + pair.y1) (pair.x1 + pair.y0) (pair.x1 + pair.y1) x0y0 x0y1 x1y0 x1y1
+  pub sums_repeated : (word : ℕ) → word ≡ sum_word pair → lanes_from (word ∷ word ∷ word ∷ word ∷ []) ≡ all_sums pair
+  sums_repeated word e =
+      subst (λ w. lanes_from (w ∷ w ∷ w ∷ w ∷ []) ≡ all_sums pair) (sym e) (parts_repeated (pair.x0 + pair.y0) (pair.x0 + pair.y1) (pair.x1 + pair.y0) (pair.x1 + pair.y1) x0y0 x0y1 x1y0 x1y1)
 
 -- what holds of four numbers
 by_four : (P : ℕ → Type 0) → P 0 → P 1 → P 2 → P 3 → (i : ℕ) → i < 4 → P i
@@ -45,36 +43,6 @@ by_four P a b c d (suc zero) l = b
 by_four P a b c d (suc (suc zero)) l = c
 by_four P a b c d (suc (suc (suc zero))) l = d
 by_four P a b c d (suc (suc (suc (suc i)))) l = absurd (omega (arith, l))
-
--- ---- two words, twice
-
-module _ (x y : CostPair) where
-  abbrev two_words : List ℕ
-  two_words = sum_word x ∷ sum_word y ∷ sum_word x ∷ sum_word y ∷ []
-
-  two_fit : Each1 (λ x. x < 18446744073709551616) two_words
-  two_fit = (sum_fits x, (sum_fits y, (sum_fits x, (sum_fits y, tt))))
-
-  abbrev both_at : ℕ → ℕ → Type 0
-  both_at j i = get_or (lanes_from two_words) (4 * j + i) 0 ≡ slice_index (four x ++ four y) ((4 * j + i) % 8)
-
-  sum_at : (j i : ℕ) → j < 4 → i < 4 → both_at j i
-  sum_at zero i k l = lane_at two_words two_fit 0 i k l ∙ sum_part x i l ∙ by_four (λ i. get_or (four x) i 0 ≡ slice_index (four x ++ four y) ((4 * 0 + i) % 8)) refl refl refl refl i l
-  sum_at (suc zero) i k l = lane_at two_words two_fit 1 i k l ∙ sum_part y i l ∙ by_four (λ i. get_or (four y) i 0 ≡ slice_index (four x ++ four y) ((4 * 1 + i) % 8)) refl refl refl refl i l
-  sum_at (suc (suc zero)) i k l = lane_at two_words two_fit 2 i k l ∙ sum_part x i l ∙ by_four (λ i. get_or (four x) i 0 ≡ slice_index (four x ++ four y) ((4 * 2 + i) % 8)) refl refl refl refl i l
-  sum_at (suc (suc (suc zero))) i k l = lane_at two_words two_fit 3 i k l ∙ sum_part y i l ∙ by_four (λ i. get_or (four y) i 0 ≡ slice_index (four x ++ four y) ((4 * 3 + i) % 8)) refl refl refl refl i l
-  sum_at (suc (suc (suc (suc j)))) i k l = absurd (omega arith)
-
-  two_are : lanes_from two_words ≡ both_sums x y
-  two_are =
-      same_number_lists (lanes_from two_words) (both_sums x y) (lanes_len two_words)
-      (λ k l.
-      let m : k < 16 = omega (arith, l, lanes_len two_words) in
-      let e : 4 * (k / 4) + k % 4 ≡ k = omega arith in
-      ap (λ z. get_or (lanes_from two_words) z 0) (sym e) ∙ sum_at (k / 4) (k % 4) (omega arith) (omega arith) ∙ ap (λ z. slice_index (four x ++ four y) (z % 8)) e ∙ sym (at_range (λ k. slice_index (four x ++ four y) (k % 8)) 16 k refl m))
-
-  pub sums_twice : (v w : ℕ) → v ≡ sum_word x → w ≡ sum_word y → lanes_from (v ∷ w ∷ v ∷ w ∷ []) ≡ both_sums x y
-  sums_twice v w e f = ap₂ (λ v w. lanes_from (v ∷ w ∷ v ∷ w ∷ [])) e f ∙ two_are
 
 -- ---- four words
 

@@ -4,7 +4,7 @@ use Rattle.code_paths.specs.declared.costs.CostPair.{CostPair}
 use Rattle.code_paths.specs.Paths.{parity_x, parity_y}
 use Rattle.code_paths.proofs.Registers.{all_below}
 use Rattle.acs_lanes.specs.Lanes.{AreSteps, four}
-use Rattle.acs_lanes.specs.Phases.{AreCostsIn, both_sums, pair_in, way_in}
+use Rattle.acs_lanes.specs.Phases.{AreCostsIn, all_sums, way_in}
 use Rattle.acs_lanes.proofs.Costs16.{code_at, codes_small, lanes_of}
 use Rattle.acs_lanes.proofs.LaneLaws.{at_map, bits_at, four_at, four_small}
 use Rattle.acs_lanes.proofs.Laid.{same_below}
@@ -192,56 +192,56 @@ costs_5 pair = record {
   odd_zero = steps_in 5 (lit< tt) pair (oa5 ++ ob5) 1 false refl refl;
 }
 
-pub costs_of_0 : (p : ℕ) → p ≡ 0 → (x y : CostPair) (s : List ℕ) → s ≡ both_sums x y
-    → AreCostsIn p (pair_in p x y) (lanes_of (s ++ s) (0 ∷ 3 ∷ 0 ∷ 3 ∷ 1 ∷ 2 ∷ 1 ∷ 2 ∷ 10 ∷ 9 ∷ 10 ∷ 9 ∷ 11 ∷ 8 ∷ 11 ∷ 8 ∷ [])) (lanes_of (s ++ s) (3 ∷ 0 ∷ 3 ∷ 0 ∷ 2 ∷ 1 ∷ 2 ∷ 1 ∷ 9 ∷ 10 ∷ 9 ∷ 10 ∷ 8 ∷ 11 ∷ 8 ∷ 11 ∷ []))
+pub costs_of_0 : (p : ℕ) → p ≡ 0 → (pair : CostPair) (s : List ℕ) → s ≡ all_sums pair
+    → AreCostsIn p pair (lanes_of (s ++ s) (0 ∷ 3 ∷ 0 ∷ 3 ∷ 1 ∷ 2 ∷ 1 ∷ 2 ∷ 10 ∷ 9 ∷ 10 ∷ 9 ∷ 11 ∷ 8 ∷ 11 ∷ 8 ∷ [])) (lanes_of (s ++ s) (3 ∷ 0 ∷ 3 ∷ 0 ∷ 2 ∷ 1 ∷ 2 ∷ 1 ∷ 9 ∷ 10 ∷ 9 ∷ 10 ∷ 8 ∷ 11 ∷ 8 ∷ 11 ∷ []))
     (lanes_of (s ++ s) (3 ∷ 0 ∷ 3 ∷ 0 ∷ 2 ∷ 1 ∷ 2 ∷ 1 ∷ 9 ∷ 10 ∷ 9 ∷ 10 ∷ 8 ∷ 11 ∷ 8 ∷ 11 ∷ [])) (lanes_of (s ++ s) (0 ∷ 3 ∷ 0 ∷ 3 ∷ 1 ∷ 2 ∷ 1 ∷ 2 ∷ 10 ∷ 9 ∷ 10 ∷ 9 ∷ 11 ∷ 8 ∷ 11 ∷ 8 ∷ []))
-costs_of_0 p q x y s e =
+costs_of_0 p q pair s e =
     subst
-    (λ s. AreCostsIn p (pair_in p x y) (lanes_of (s ++ s) (0 ∷ 3 ∷ 0 ∷ 3 ∷ 1 ∷ 2 ∷ 1 ∷ 2 ∷ 10 ∷ 9 ∷ 10 ∷ 9 ∷ 11 ∷ 8 ∷ 11 ∷ 8 ∷ [])) (lanes_of (s ++ s) (3 ∷ 0 ∷ 3 ∷ 0 ∷ 2 ∷ 1 ∷ 2 ∷ 1 ∷ 9 ∷ 10 ∷ 9 ∷ 10 ∷ 8 ∷ 11 ∷ 8 ∷ 11 ∷ []))
+    (λ s. AreCostsIn p pair (lanes_of (s ++ s) (0 ∷ 3 ∷ 0 ∷ 3 ∷ 1 ∷ 2 ∷ 1 ∷ 2 ∷ 10 ∷ 9 ∷ 10 ∷ 9 ∷ 11 ∷ 8 ∷ 11 ∷ 8 ∷ [])) (lanes_of (s ++ s) (3 ∷ 0 ∷ 3 ∷ 0 ∷ 2 ∷ 1 ∷ 2 ∷ 1 ∷ 9 ∷ 10 ∷ 9 ∷ 10 ∷ 8 ∷ 11 ∷ 8 ∷ 11 ∷ []))
     (lanes_of (s ++ s) (3 ∷ 0 ∷ 3 ∷ 0 ∷ 2 ∷ 1 ∷ 2 ∷ 1 ∷ 9 ∷ 10 ∷ 9 ∷ 10 ∷ 8 ∷ 11 ∷ 8 ∷ 11 ∷ [])) (lanes_of (s ++ s) (0 ∷ 3 ∷ 0 ∷ 3 ∷ 1 ∷ 2 ∷ 1 ∷ 2 ∷ 10 ∷ 9 ∷ 10 ∷ 9 ∷ 11 ∷ 8 ∷ 11 ∷ 8 ∷ [])))
-    (sym e) (subst (λ p. AreCostsIn p (pair_in p x y) (lanes_of (four x) za0) (lanes_of (four x) oa0) (lanes_of (four x) zb0) (lanes_of (four x) ob0)) (sym q) (costs_0 x))
+    (sym e) (subst (λ p. by_codes p pair za0 oa0 zb0 ob0) (sym q) (costs_0 pair))
 
-pub costs_of_1 : (p : ℕ) → p ≡ 1 → (x y : CostPair) (s : List ℕ) → s ≡ both_sums x y
-    → AreCostsIn p (pair_in p x y) (lanes_of (s ++ s) (4 ∷ 6 ∷ 4 ∷ 6 ∷ 5 ∷ 7 ∷ 5 ∷ 7 ∷ 15 ∷ 13 ∷ 15 ∷ 13 ∷ 14 ∷ 12 ∷ 14 ∷ 12 ∷ [])) (lanes_of (s ++ s) (7 ∷ 5 ∷ 7 ∷ 5 ∷ 6 ∷ 4 ∷ 6 ∷ 4 ∷ 12 ∷ 14 ∷ 12 ∷ 14 ∷ 13 ∷ 15 ∷ 13 ∷ 15 ∷ []))
-    (lanes_of (s ++ s) (7 ∷ 5 ∷ 7 ∷ 5 ∷ 6 ∷ 4 ∷ 6 ∷ 4 ∷ 12 ∷ 14 ∷ 12 ∷ 14 ∷ 13 ∷ 15 ∷ 13 ∷ 15 ∷ [])) (lanes_of (s ++ s) (4 ∷ 6 ∷ 4 ∷ 6 ∷ 5 ∷ 7 ∷ 5 ∷ 7 ∷ 15 ∷ 13 ∷ 15 ∷ 13 ∷ 14 ∷ 12 ∷ 14 ∷ 12 ∷ []))
-costs_of_1 p q x y s e =
+pub costs_of_1 : (p : ℕ) → p ≡ 1 → (pair : CostPair) (s : List ℕ) → s ≡ all_sums pair
+    → AreCostsIn p pair (lanes_of (s ++ s) (0 ∷ 2 ∷ 0 ∷ 2 ∷ 1 ∷ 3 ∷ 1 ∷ 3 ∷ 11 ∷ 9 ∷ 11 ∷ 9 ∷ 10 ∷ 8 ∷ 10 ∷ 8 ∷ [])) (lanes_of (s ++ s) (3 ∷ 1 ∷ 3 ∷ 1 ∷ 2 ∷ 0 ∷ 2 ∷ 0 ∷ 8 ∷ 10 ∷ 8 ∷ 10 ∷ 9 ∷ 11 ∷ 9 ∷ 11 ∷ []))
+    (lanes_of (s ++ s) (3 ∷ 1 ∷ 3 ∷ 1 ∷ 2 ∷ 0 ∷ 2 ∷ 0 ∷ 8 ∷ 10 ∷ 8 ∷ 10 ∷ 9 ∷ 11 ∷ 9 ∷ 11 ∷ [])) (lanes_of (s ++ s) (0 ∷ 2 ∷ 0 ∷ 2 ∷ 1 ∷ 3 ∷ 1 ∷ 3 ∷ 11 ∷ 9 ∷ 11 ∷ 9 ∷ 10 ∷ 8 ∷ 10 ∷ 8 ∷ []))
+costs_of_1 p q pair s e =
     subst
-    (λ s. AreCostsIn p (pair_in p x y) (lanes_of (s ++ s) (4 ∷ 6 ∷ 4 ∷ 6 ∷ 5 ∷ 7 ∷ 5 ∷ 7 ∷ 15 ∷ 13 ∷ 15 ∷ 13 ∷ 14 ∷ 12 ∷ 14 ∷ 12 ∷ [])) (lanes_of (s ++ s) (7 ∷ 5 ∷ 7 ∷ 5 ∷ 6 ∷ 4 ∷ 6 ∷ 4 ∷ 12 ∷ 14 ∷ 12 ∷ 14 ∷ 13 ∷ 15 ∷ 13 ∷ 15 ∷ []))
-    (lanes_of (s ++ s) (7 ∷ 5 ∷ 7 ∷ 5 ∷ 6 ∷ 4 ∷ 6 ∷ 4 ∷ 12 ∷ 14 ∷ 12 ∷ 14 ∷ 13 ∷ 15 ∷ 13 ∷ 15 ∷ [])) (lanes_of (s ++ s) (4 ∷ 6 ∷ 4 ∷ 6 ∷ 5 ∷ 7 ∷ 5 ∷ 7 ∷ 15 ∷ 13 ∷ 15 ∷ 13 ∷ 14 ∷ 12 ∷ 14 ∷ 12 ∷ [])))
-    (sym e) (subst (λ p. AreCostsIn p (pair_in p x y) (lanes_of (four y) za1) (lanes_of (four y) oa1) (lanes_of (four y) zb1) (lanes_of (four y) ob1)) (sym q) (costs_1 y))
+    (λ s. AreCostsIn p pair (lanes_of (s ++ s) (0 ∷ 2 ∷ 0 ∷ 2 ∷ 1 ∷ 3 ∷ 1 ∷ 3 ∷ 11 ∷ 9 ∷ 11 ∷ 9 ∷ 10 ∷ 8 ∷ 10 ∷ 8 ∷ [])) (lanes_of (s ++ s) (3 ∷ 1 ∷ 3 ∷ 1 ∷ 2 ∷ 0 ∷ 2 ∷ 0 ∷ 8 ∷ 10 ∷ 8 ∷ 10 ∷ 9 ∷ 11 ∷ 9 ∷ 11 ∷ []))
+    (lanes_of (s ++ s) (3 ∷ 1 ∷ 3 ∷ 1 ∷ 2 ∷ 0 ∷ 2 ∷ 0 ∷ 8 ∷ 10 ∷ 8 ∷ 10 ∷ 9 ∷ 11 ∷ 9 ∷ 11 ∷ [])) (lanes_of (s ++ s) (0 ∷ 2 ∷ 0 ∷ 2 ∷ 1 ∷ 3 ∷ 1 ∷ 3 ∷ 11 ∷ 9 ∷ 11 ∷ 9 ∷ 10 ∷ 8 ∷ 10 ∷ 8 ∷ [])))
+    (sym e) (subst (λ p. by_codes p pair za1 oa1 zb1 ob1) (sym q) (costs_1 pair))
 
-pub costs_of_2 : (p : ℕ) → p ≡ 2 → (x y : CostPair) (s : List ℕ) → s ≡ both_sums x y
-    → AreCostsIn p (pair_in p x y) (lanes_of (s ++ s) (0 ∷ 2 ∷ 3 ∷ 1 ∷ 1 ∷ 3 ∷ 2 ∷ 0 ∷ 11 ∷ 9 ∷ 8 ∷ 10 ∷ 10 ∷ 8 ∷ 9 ∷ 11 ∷ [])) (lanes_of (s ++ s) (3 ∷ 1 ∷ 0 ∷ 2 ∷ 2 ∷ 0 ∷ 1 ∷ 3 ∷ 8 ∷ 10 ∷ 11 ∷ 9 ∷ 9 ∷ 11 ∷ 10 ∷ 8 ∷ []))
+pub costs_of_2 : (p : ℕ) → p ≡ 2 → (pair : CostPair) (s : List ℕ) → s ≡ all_sums pair
+    → AreCostsIn p pair (lanes_of (s ++ s) (0 ∷ 2 ∷ 3 ∷ 1 ∷ 1 ∷ 3 ∷ 2 ∷ 0 ∷ 11 ∷ 9 ∷ 8 ∷ 10 ∷ 10 ∷ 8 ∷ 9 ∷ 11 ∷ [])) (lanes_of (s ++ s) (3 ∷ 1 ∷ 0 ∷ 2 ∷ 2 ∷ 0 ∷ 1 ∷ 3 ∷ 8 ∷ 10 ∷ 11 ∷ 9 ∷ 9 ∷ 11 ∷ 10 ∷ 8 ∷ []))
     (lanes_of (s ++ s) (0 ∷ 2 ∷ 3 ∷ 1 ∷ 1 ∷ 3 ∷ 2 ∷ 0 ∷ 11 ∷ 9 ∷ 8 ∷ 10 ∷ 10 ∷ 8 ∷ 9 ∷ 11 ∷ [])) (lanes_of (s ++ s) (3 ∷ 1 ∷ 0 ∷ 2 ∷ 2 ∷ 0 ∷ 1 ∷ 3 ∷ 8 ∷ 10 ∷ 11 ∷ 9 ∷ 9 ∷ 11 ∷ 10 ∷ 8 ∷ []))
-costs_of_2 p q x y s e =
+costs_of_2 p q pair s e =
     subst
-    (λ s. AreCostsIn p (pair_in p x y) (lanes_of (s ++ s) (0 ∷ 2 ∷ 3 ∷ 1 ∷ 1 ∷ 3 ∷ 2 ∷ 0 ∷ 11 ∷ 9 ∷ 8 ∷ 10 ∷ 10 ∷ 8 ∷ 9 ∷ 11 ∷ [])) (lanes_of (s ++ s) (3 ∷ 1 ∷ 0 ∷ 2 ∷ 2 ∷ 0 ∷ 1 ∷ 3 ∷ 8 ∷ 10 ∷ 11 ∷ 9 ∷ 9 ∷ 11 ∷ 10 ∷ 8 ∷ []))
+    (λ s. AreCostsIn p pair (lanes_of (s ++ s) (0 ∷ 2 ∷ 3 ∷ 1 ∷ 1 ∷ 3 ∷ 2 ∷ 0 ∷ 11 ∷ 9 ∷ 8 ∷ 10 ∷ 10 ∷ 8 ∷ 9 ∷ 11 ∷ [])) (lanes_of (s ++ s) (3 ∷ 1 ∷ 0 ∷ 2 ∷ 2 ∷ 0 ∷ 1 ∷ 3 ∷ 8 ∷ 10 ∷ 11 ∷ 9 ∷ 9 ∷ 11 ∷ 10 ∷ 8 ∷ []))
     (lanes_of (s ++ s) (0 ∷ 2 ∷ 3 ∷ 1 ∷ 1 ∷ 3 ∷ 2 ∷ 0 ∷ 11 ∷ 9 ∷ 8 ∷ 10 ∷ 10 ∷ 8 ∷ 9 ∷ 11 ∷ [])) (lanes_of (s ++ s) (3 ∷ 1 ∷ 0 ∷ 2 ∷ 2 ∷ 0 ∷ 1 ∷ 3 ∷ 8 ∷ 10 ∷ 11 ∷ 9 ∷ 9 ∷ 11 ∷ 10 ∷ 8 ∷ [])))
-    (sym e) (subst (λ p. AreCostsIn p (pair_in p x y) (lanes_of (four x) za2) (lanes_of (four x) oa2) (lanes_of (four x) zb2) (lanes_of (four x) ob2)) (sym q) (costs_2 x))
+    (sym e) (subst (λ p. by_codes p pair za2 oa2 zb2 ob2) (sym q) (costs_2 pair))
 
-pub costs_of_3 : (p : ℕ) → p ≡ 3 → (x y : CostPair) (s : List ℕ) → s ≡ both_sums x y
-    → AreCostsIn p (pair_in p x y) (lanes_of (s ++ s) (4 ∷ 6 ∷ 7 ∷ 5 ∷ 7 ∷ 5 ∷ 4 ∷ 6 ∷ 12 ∷ 14 ∷ 15 ∷ 13 ∷ 15 ∷ 13 ∷ 12 ∷ 14 ∷ [])) (lanes_of (s ++ s) (7 ∷ 5 ∷ 4 ∷ 6 ∷ 4 ∷ 6 ∷ 7 ∷ 5 ∷ 15 ∷ 13 ∷ 12 ∷ 14 ∷ 12 ∷ 14 ∷ 15 ∷ 13 ∷ []))
-    (lanes_of (s ++ s) (5 ∷ 7 ∷ 6 ∷ 4 ∷ 6 ∷ 4 ∷ 5 ∷ 7 ∷ 13 ∷ 15 ∷ 14 ∷ 12 ∷ 14 ∷ 12 ∷ 13 ∷ 15 ∷ [])) (lanes_of (s ++ s) (6 ∷ 4 ∷ 5 ∷ 7 ∷ 5 ∷ 7 ∷ 6 ∷ 4 ∷ 14 ∷ 12 ∷ 13 ∷ 15 ∷ 13 ∷ 15 ∷ 14 ∷ 12 ∷ []))
-costs_of_3 p q x y s e =
+pub costs_of_3 : (p : ℕ) → p ≡ 3 → (pair : CostPair) (s : List ℕ) → s ≡ all_sums pair
+    → AreCostsIn p pair (lanes_of (s ++ s) (0 ∷ 2 ∷ 3 ∷ 1 ∷ 3 ∷ 1 ∷ 0 ∷ 2 ∷ 8 ∷ 10 ∷ 11 ∷ 9 ∷ 11 ∷ 9 ∷ 8 ∷ 10 ∷ [])) (lanes_of (s ++ s) (3 ∷ 1 ∷ 0 ∷ 2 ∷ 0 ∷ 2 ∷ 3 ∷ 1 ∷ 11 ∷ 9 ∷ 8 ∷ 10 ∷ 8 ∷ 10 ∷ 11 ∷ 9 ∷ []))
+    (lanes_of (s ++ s) (1 ∷ 3 ∷ 2 ∷ 0 ∷ 2 ∷ 0 ∷ 1 ∷ 3 ∷ 9 ∷ 11 ∷ 10 ∷ 8 ∷ 10 ∷ 8 ∷ 9 ∷ 11 ∷ [])) (lanes_of (s ++ s) (2 ∷ 0 ∷ 1 ∷ 3 ∷ 1 ∷ 3 ∷ 2 ∷ 0 ∷ 10 ∷ 8 ∷ 9 ∷ 11 ∷ 9 ∷ 11 ∷ 10 ∷ 8 ∷ []))
+costs_of_3 p q pair s e =
     subst
-    (λ s. AreCostsIn p (pair_in p x y) (lanes_of (s ++ s) (4 ∷ 6 ∷ 7 ∷ 5 ∷ 7 ∷ 5 ∷ 4 ∷ 6 ∷ 12 ∷ 14 ∷ 15 ∷ 13 ∷ 15 ∷ 13 ∷ 12 ∷ 14 ∷ [])) (lanes_of (s ++ s) (7 ∷ 5 ∷ 4 ∷ 6 ∷ 4 ∷ 6 ∷ 7 ∷ 5 ∷ 15 ∷ 13 ∷ 12 ∷ 14 ∷ 12 ∷ 14 ∷ 15 ∷ 13 ∷ []))
-    (lanes_of (s ++ s) (5 ∷ 7 ∷ 6 ∷ 4 ∷ 6 ∷ 4 ∷ 5 ∷ 7 ∷ 13 ∷ 15 ∷ 14 ∷ 12 ∷ 14 ∷ 12 ∷ 13 ∷ 15 ∷ [])) (lanes_of (s ++ s) (6 ∷ 4 ∷ 5 ∷ 7 ∷ 5 ∷ 7 ∷ 6 ∷ 4 ∷ 14 ∷ 12 ∷ 13 ∷ 15 ∷ 13 ∷ 15 ∷ 14 ∷ 12 ∷ [])))
-    (sym e) (subst (λ p. AreCostsIn p (pair_in p x y) (lanes_of (four y) za3) (lanes_of (four y) oa3) (lanes_of (four y) zb3) (lanes_of (four y) ob3)) (sym q) (costs_3 y))
+    (λ s. AreCostsIn p pair (lanes_of (s ++ s) (0 ∷ 2 ∷ 3 ∷ 1 ∷ 3 ∷ 1 ∷ 0 ∷ 2 ∷ 8 ∷ 10 ∷ 11 ∷ 9 ∷ 11 ∷ 9 ∷ 8 ∷ 10 ∷ [])) (lanes_of (s ++ s) (3 ∷ 1 ∷ 0 ∷ 2 ∷ 0 ∷ 2 ∷ 3 ∷ 1 ∷ 11 ∷ 9 ∷ 8 ∷ 10 ∷ 8 ∷ 10 ∷ 11 ∷ 9 ∷ []))
+    (lanes_of (s ++ s) (1 ∷ 3 ∷ 2 ∷ 0 ∷ 2 ∷ 0 ∷ 1 ∷ 3 ∷ 9 ∷ 11 ∷ 10 ∷ 8 ∷ 10 ∷ 8 ∷ 9 ∷ 11 ∷ [])) (lanes_of (s ++ s) (2 ∷ 0 ∷ 1 ∷ 3 ∷ 1 ∷ 3 ∷ 2 ∷ 0 ∷ 10 ∷ 8 ∷ 9 ∷ 11 ∷ 9 ∷ 11 ∷ 10 ∷ 8 ∷ [])))
+    (sym e) (subst (λ p. by_codes p pair za3 oa3 zb3 ob3) (sym q) (costs_3 pair))
 
-pub costs_of_4 : (p : ℕ) → p ≡ 4 → (x y : CostPair) (s : List ℕ) → s ≡ both_sums x y
-    → AreCostsIn p (pair_in p x y) (lanes_of (s ++ s) (0 ∷ 2 ∷ 3 ∷ 1 ∷ 3 ∷ 1 ∷ 0 ∷ 2 ∷ 9 ∷ 11 ∷ 10 ∷ 8 ∷ 10 ∷ 8 ∷ 9 ∷ 11 ∷ [])) (lanes_of (s ++ s) (3 ∷ 1 ∷ 0 ∷ 2 ∷ 0 ∷ 2 ∷ 3 ∷ 1 ∷ 10 ∷ 8 ∷ 9 ∷ 11 ∷ 9 ∷ 11 ∷ 10 ∷ 8 ∷ []))
+pub costs_of_4 : (p : ℕ) → p ≡ 4 → (pair : CostPair) (s : List ℕ) → s ≡ all_sums pair
+    → AreCostsIn p pair (lanes_of (s ++ s) (0 ∷ 2 ∷ 3 ∷ 1 ∷ 3 ∷ 1 ∷ 0 ∷ 2 ∷ 9 ∷ 11 ∷ 10 ∷ 8 ∷ 10 ∷ 8 ∷ 9 ∷ 11 ∷ [])) (lanes_of (s ++ s) (3 ∷ 1 ∷ 0 ∷ 2 ∷ 0 ∷ 2 ∷ 3 ∷ 1 ∷ 10 ∷ 8 ∷ 9 ∷ 11 ∷ 9 ∷ 11 ∷ 10 ∷ 8 ∷ []))
     (lanes_of (s ++ s) (0 ∷ 2 ∷ 3 ∷ 1 ∷ 3 ∷ 1 ∷ 0 ∷ 2 ∷ 9 ∷ 11 ∷ 10 ∷ 8 ∷ 10 ∷ 8 ∷ 9 ∷ 11 ∷ [])) (lanes_of (s ++ s) (3 ∷ 1 ∷ 0 ∷ 2 ∷ 0 ∷ 2 ∷ 3 ∷ 1 ∷ 10 ∷ 8 ∷ 9 ∷ 11 ∷ 9 ∷ 11 ∷ 10 ∷ 8 ∷ []))
-costs_of_4 p q x y s e =
+costs_of_4 p q pair s e =
     subst
-    (λ s. AreCostsIn p (pair_in p x y) (lanes_of (s ++ s) (0 ∷ 2 ∷ 3 ∷ 1 ∷ 3 ∷ 1 ∷ 0 ∷ 2 ∷ 9 ∷ 11 ∷ 10 ∷ 8 ∷ 10 ∷ 8 ∷ 9 ∷ 11 ∷ [])) (lanes_of (s ++ s) (3 ∷ 1 ∷ 0 ∷ 2 ∷ 0 ∷ 2 ∷ 3 ∷ 1 ∷ 10 ∷ 8 ∷ 9 ∷ 11 ∷ 9 ∷ 11 ∷ 10 ∷ 8 ∷ []))
+    (λ s. AreCostsIn p pair (lanes_of (s ++ s) (0 ∷ 2 ∷ 3 ∷ 1 ∷ 3 ∷ 1 ∷ 0 ∷ 2 ∷ 9 ∷ 11 ∷ 10 ∷ 8 ∷ 10 ∷ 8 ∷ 9 ∷ 11 ∷ [])) (lanes_of (s ++ s) (3 ∷ 1 ∷ 0 ∷ 2 ∷ 0 ∷ 2 ∷ 3 ∷ 1 ∷ 10 ∷ 8 ∷ 9 ∷ 11 ∷ 9 ∷ 11 ∷ 10 ∷ 8 ∷ []))
     (lanes_of (s ++ s) (0 ∷ 2 ∷ 3 ∷ 1 ∷ 3 ∷ 1 ∷ 0 ∷ 2 ∷ 9 ∷ 11 ∷ 10 ∷ 8 ∷ 10 ∷ 8 ∷ 9 ∷ 11 ∷ [])) (lanes_of (s ++ s) (3 ∷ 1 ∷ 0 ∷ 2 ∷ 0 ∷ 2 ∷ 3 ∷ 1 ∷ 10 ∷ 8 ∷ 9 ∷ 11 ∷ 9 ∷ 11 ∷ 10 ∷ 8 ∷ [])))
-    (sym e) (subst (λ p. AreCostsIn p (pair_in p x y) (lanes_of (four x) za4) (lanes_of (four x) oa4) (lanes_of (four x) zb4) (lanes_of (four x) ob4)) (sym q) (costs_4 x))
+    (sym e) (subst (λ p. by_codes p pair za4 oa4 zb4 ob4) (sym q) (costs_4 pair))
 
-pub costs_of_5 : (p : ℕ) → p ≡ 5 → (x y : CostPair) (s : List ℕ) → s ≡ both_sums x y
-    → AreCostsIn p (pair_in p x y) (lanes_of (s ++ s) (4 ∷ 7 ∷ 7 ∷ 4 ∷ 4 ∷ 7 ∷ 7 ∷ 4 ∷ 13 ∷ 14 ∷ 14 ∷ 13 ∷ 13 ∷ 14 ∷ 14 ∷ 13 ∷ [])) (lanes_of (s ++ s) (7 ∷ 4 ∷ 4 ∷ 7 ∷ 7 ∷ 4 ∷ 4 ∷ 7 ∷ 14 ∷ 13 ∷ 13 ∷ 14 ∷ 14 ∷ 13 ∷ 13 ∷ 14 ∷ []))
-    (lanes_of (s ++ s) (6 ∷ 5 ∷ 5 ∷ 6 ∷ 6 ∷ 5 ∷ 5 ∷ 6 ∷ 15 ∷ 12 ∷ 12 ∷ 15 ∷ 15 ∷ 12 ∷ 12 ∷ 15 ∷ [])) (lanes_of (s ++ s) (5 ∷ 6 ∷ 6 ∷ 5 ∷ 5 ∷ 6 ∷ 6 ∷ 5 ∷ 12 ∷ 15 ∷ 15 ∷ 12 ∷ 12 ∷ 15 ∷ 15 ∷ 12 ∷ []))
-costs_of_5 p q x y s e =
+pub costs_of_5 : (p : ℕ) → p ≡ 5 → (pair : CostPair) (s : List ℕ) → s ≡ all_sums pair
+    → AreCostsIn p pair (lanes_of (s ++ s) (0 ∷ 3 ∷ 3 ∷ 0 ∷ 0 ∷ 3 ∷ 3 ∷ 0 ∷ 9 ∷ 10 ∷ 10 ∷ 9 ∷ 9 ∷ 10 ∷ 10 ∷ 9 ∷ [])) (lanes_of (s ++ s) (3 ∷ 0 ∷ 0 ∷ 3 ∷ 3 ∷ 0 ∷ 0 ∷ 3 ∷ 10 ∷ 9 ∷ 9 ∷ 10 ∷ 10 ∷ 9 ∷ 9 ∷ 10 ∷ []))
+    (lanes_of (s ++ s) (2 ∷ 1 ∷ 1 ∷ 2 ∷ 2 ∷ 1 ∷ 1 ∷ 2 ∷ 11 ∷ 8 ∷ 8 ∷ 11 ∷ 11 ∷ 8 ∷ 8 ∷ 11 ∷ [])) (lanes_of (s ++ s) (1 ∷ 2 ∷ 2 ∷ 1 ∷ 1 ∷ 2 ∷ 2 ∷ 1 ∷ 8 ∷ 11 ∷ 11 ∷ 8 ∷ 8 ∷ 11 ∷ 11 ∷ 8 ∷ []))
+costs_of_5 p q pair s e =
     subst
-    (λ s. AreCostsIn p (pair_in p x y) (lanes_of (s ++ s) (4 ∷ 7 ∷ 7 ∷ 4 ∷ 4 ∷ 7 ∷ 7 ∷ 4 ∷ 13 ∷ 14 ∷ 14 ∷ 13 ∷ 13 ∷ 14 ∷ 14 ∷ 13 ∷ [])) (lanes_of (s ++ s) (7 ∷ 4 ∷ 4 ∷ 7 ∷ 7 ∷ 4 ∷ 4 ∷ 7 ∷ 14 ∷ 13 ∷ 13 ∷ 14 ∷ 14 ∷ 13 ∷ 13 ∷ 14 ∷ []))
-    (lanes_of (s ++ s) (6 ∷ 5 ∷ 5 ∷ 6 ∷ 6 ∷ 5 ∷ 5 ∷ 6 ∷ 15 ∷ 12 ∷ 12 ∷ 15 ∷ 15 ∷ 12 ∷ 12 ∷ 15 ∷ [])) (lanes_of (s ++ s) (5 ∷ 6 ∷ 6 ∷ 5 ∷ 5 ∷ 6 ∷ 6 ∷ 5 ∷ 12 ∷ 15 ∷ 15 ∷ 12 ∷ 12 ∷ 15 ∷ 15 ∷ 12 ∷ [])))
-    (sym e) (subst (λ p. AreCostsIn p (pair_in p x y) (lanes_of (four y) za5) (lanes_of (four y) oa5) (lanes_of (four y) zb5) (lanes_of (four y) ob5)) (sym q) (costs_5 y))
+    (λ s. AreCostsIn p pair (lanes_of (s ++ s) (0 ∷ 3 ∷ 3 ∷ 0 ∷ 0 ∷ 3 ∷ 3 ∷ 0 ∷ 9 ∷ 10 ∷ 10 ∷ 9 ∷ 9 ∷ 10 ∷ 10 ∷ 9 ∷ [])) (lanes_of (s ++ s) (3 ∷ 0 ∷ 0 ∷ 3 ∷ 3 ∷ 0 ∷ 0 ∷ 3 ∷ 10 ∷ 9 ∷ 9 ∷ 10 ∷ 10 ∷ 9 ∷ 9 ∷ 10 ∷ []))
+    (lanes_of (s ++ s) (2 ∷ 1 ∷ 1 ∷ 2 ∷ 2 ∷ 1 ∷ 1 ∷ 2 ∷ 11 ∷ 8 ∷ 8 ∷ 11 ∷ 11 ∷ 8 ∷ 8 ∷ 11 ∷ [])) (lanes_of (s ++ s) (1 ∷ 2 ∷ 2 ∷ 1 ∷ 1 ∷ 2 ∷ 2 ∷ 1 ∷ 8 ∷ 11 ∷ 11 ∷ 8 ∷ 8 ∷ 11 ∷ 11 ∷ 8 ∷ [])))
+    (sym e) (subst (λ p. by_codes p pair za5 oa5 zb5 ob5) (sym q) (costs_5 pair))

@@ -14,7 +14,7 @@ use Rattle.acs_lanes.specs.Lanes.{cost_from}
 use Rattle.acs_lanes.specs.Lanes16.{AreLanes, AreLesser, AreLowered, all_with, joined}
 use Rattle.acs_lanes.proofs.Highs.{lowered_same}
 use Rattle.acs_lanes.proofs.Shifts.{word_step}
-use Rattle.acs_lanes.specs.Phases.{AreCostsIn, AreTurnedIn, IsLow, IsWordStep, laid_in, lower_eights, lower_fours, next, pair_in, place_in, upper_eights, upper_fours, way_in}
+use Rattle.acs_lanes.specs.Phases.{AreCostsIn, AreTurnedIn, IsLow, IsWordStep, laid_in, lower_eights, lower_fours, next, place_in, upper_eights, upper_fours, way_in}
 use Rattle.acs_lanes.proofs.Grows.{lesser}
 use Rattle.acs_lanes.proofs.LaneLaws.{from_low, from_small}
 use Rattle.acs_lanes.proofs.Laid.{at_range}
@@ -192,27 +192,6 @@ second_step p in5 a b c d e f g h y w fit s =
     let q : p + 1 ≡ next p = omega (arith, in5) in
     word_step y (laid_in (next p) a b c d) (laid_in (next p) a b c d) (laid_in (next (p + 1)) e f g h) w (lowered_in (next p) (next_small p) a b c d a b c d (lowered_same (joined a b c d) fit))
     (subst (λ q. IsWordStep y (laid_in q a b c d) (laid_in (next (p + 1)) e f g h) w) q s)
-
--- ---- the pairs of two steps
-
-pub first_of : (p : ℕ) → p < 5 → p % 2 ≡ 0 → (x y : CostPair) → pair_in p x y ≡ x
-first_of zero l e x y = refl
-first_of (suc zero) l e x y = absurd (omega (arith, e))
-first_of (suc (suc zero)) l e x y = refl
-first_of (suc (suc (suc zero))) l e x y = absurd (omega (arith, e))
-first_of (suc (suc (suc (suc zero)))) l e x y = refl
-first_of (suc (suc (suc (suc (suc p))))) l e x y = absurd (omega (arith, l))
-
-pub last_of : (p : ℕ) → p < 5 → p % 2 ≡ 0 → (x y : CostPair) → pair_in (p + 1) x y ≡ y
-last_of zero l e x y = refl
-last_of (suc zero) l e x y = absurd (omega (arith, e))
-last_of (suc (suc zero)) l e x y = refl
-last_of (suc (suc (suc zero))) l e x y = absurd (omega (arith, e))
-last_of (suc (suc (suc (suc zero)))) l e x y = refl
-last_of (suc (suc (suc (suc (suc p))))) l e x y = absurd (omega (arith, l))
-
-pub step_of : (a b : CostPair) → a ≡ b → (old new : List ℕ) (word : ℕ) → IsWordStep a old new word → IsWordStep b old new word
-step_of a b e old new word h = subst (λ p. IsWordStep p old new word) e h
 
 -- lanes that were lowered are no higher
 pub no_higher : (old new : List ℕ) (most : ℕ) → AreLowered old new → ((n : ℕ) → n < 64 → slice_index old n ≤ most) → (n : ℕ) → n < 64 → slice_index new n ≤ most

@@ -150,3 +150,6 @@ module _ (start s0 s6 : Sums) (ps : List CostPair) (k : ℕ) (old new : List ℕ
       let e : (6 * k + j) % 6 ≡ j = omega (arith, m) in
       other_default words (6 * k + j) (in_order j (get_or new (6 * k + j) 0)) 0 (omega (arith, l, m, n)) ∙ same (6 * k + j) (omega (arith, m)) ∙ ap (λ p. in_order p (get_or new (6 * k + j) 0)) e)
       (six pairs sums_are) (h words n (λ i m. same i (omega (arith, m)) ∙ ap (in_order (i % 6)) (below i m))))
+
+pub next_read : (ws : List ℕ) (at v : ℕ) → get_or (slice_set ws at v) (at + 1) 0 ≡ get_or ws (at + 1) 0
+next_read ws at v = let q : at + 1 ≢ at = omega arith in get_or-set_other ws at (at + 1) v 0 q

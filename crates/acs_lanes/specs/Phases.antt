@@ -52,15 +52,9 @@ pub record IsWordStep (pair : CostPair) (old new : List ℕ) (word : ℕ) : Type
 abbrev pub sum_word : CostPair → ℕ
 sum_word pair = word_by (pair.x0 + pair.y0) (pair.x0 + pair.y1) (pair.x1 + pair.y0) (pair.x1 + pair.y1)
 
--- the four sums of each of two pairs, twice
-abbrev pub both_sums : CostPair → CostPair → List ℕ
-both_sums x y = map (λ k. slice_index (four x ++ four y) (k % 8)) (range_with_len 0 16)
-
--- the pair of a phase: its steps are taken by twos
-abbrev pub pair_in : ℕ → CostPair → CostPair → CostPair
-pair_in zero x y = x
-pair_in (suc zero) x y = y
-pair_in (suc (suc p)) x y = pair_in p x y
+-- the four sums of a pair, four times
+abbrev pub all_sums : CostPair → List ℕ
+all_sums pair = map (λ k. slice_index (four pair) (k % 4)) (range_with_len 0 16)
 
 -- all four sums of a pair are so low that those of six steps can be added to costs below 32,768
 abbrev pub IsLow : CostPair → Type 0

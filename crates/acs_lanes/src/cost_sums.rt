@@ -4,7 +4,7 @@ ghost use Rattle.std.specs.Prelude.{◌≡◌, ◌*◌, ◌/◌, ◌<◌, ◌≤
 ghost use Rattle.std.specs.Prelude.{slice_index, slice_index_or};
 ghost use Rattle.code_paths.specs.declared.costs.CostPair.{CostPair as Pair};
 ghost use Rattle.acs_lanes.specs.Lanes.{four};
-ghost use Rattle.acs_lanes.specs.Phases.{IsLow, both_sums, sum_word};
+ghost use Rattle.acs_lanes.specs.Phases.{IsLow, all_sums, sum_word};
 
 use crate::fours::store;
 use crate::lanes16::higher;
@@ -61,11 +61,11 @@ pub(crate) fn write_sums(pairs: &[CostPair], words: &mut [u64]) -> bool
     are_low(most)
 }
 
-/// The sums of two steps, twice.
-// As two words of 64 bits they are read into both halves at once.
+/// The sums of a step, four times.
+// As one word of 64 bits they are read into all lanes at once.
 #[inline(always)]
-pub(crate) fn two_sums(first: u64, last: u64) -> u16x16
-    ensures { (x y : Pair) → first ≡ sum_word x → last ≡ sum_word y → result ≡ both_sums x y }
+pub(crate) fn sums_in(word: u64) -> u16x16
+    ensures { (pair : Pair) → word ≡ sum_word pair → result ≡ all_sums pair }
 {
-    u16x16::from_le_bytes(u64x4::from_array([first, last, first, last]).to_le_bytes())
+    u16x16::from_le_bytes(u64x4::splat(word).to_le_bytes())
 }

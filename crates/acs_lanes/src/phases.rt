@@ -3,8 +3,8 @@ ghost use Rattle.std.specs.Prelude.{◌≡◌, ◌≤◌, ◌<◌, ◌+◌, ◌*
 ghost use Rattle.spec_words.specs.Bits.{is_set};
 ghost use Rattle.code_paths.specs.declared.costs.CostPair.{CostPair as Pair};
 ghost use Rattle.acs_lanes.specs.Lanes16.{AreMarks, way};
-ghost use Rattle.acs_lanes.specs.Phases.{AreCostsIn, AreTurnedIn, both_sums, by_halves, exchanged, in_order, laid_in};
-ghost use Rattle.acs_lanes.specs.Phases.{lower_eights, lower_fours, next, ordered, ordered_by, pair_in};
+ghost use Rattle.acs_lanes.specs.Phases.{AreCostsIn, AreTurnedIn, all_sums, by_halves, exchanged, in_order, laid_in};
+ghost use Rattle.acs_lanes.specs.Phases.{lower_eights, lower_fours, next, ordered, ordered_by};
 ghost use Rattle.acs_lanes.specs.Phases.{upper_eights, upper_fours, way_in};
 
 use crate::lanes16::Lanes;
@@ -16,36 +16,35 @@ use std::simd::{u8x16, u8x32, u16x16};
 #[inline(always)]
 pub(crate) fn costs_in(phase: usize, sums: u16x16) -> (u16x16, u16x16, u16x16, u16x16)
     requires { phase < 6 }
-    ensures { (x y : Pair) → sums ≡ both_sums x y → AreCostsIn phase (pair_in phase x y) result.0 result.1 result.2
-        result.3 }
+    ensures { (pair : Pair) → sums ≡ all_sums pair → AreCostsIn phase pair result.0 result.1 result.2 result.3 }
 {
     if phase == 0 {
         let zero = sums.swizzle([0, 3, 0, 3, 1, 2, 1, 2, 10, 9, 10, 9, 11, 8, 11, 8]);
         let one = sums.swizzle([3, 0, 3, 0, 2, 1, 2, 1, 9, 10, 9, 10, 8, 11, 8, 11]);
         (zero, one, one, zero)
     } else if phase == 1 {
-        let zero = sums.swizzle([4, 6, 4, 6, 5, 7, 5, 7, 15, 13, 15, 13, 14, 12, 14, 12]);
-        let one = sums.swizzle([7, 5, 7, 5, 6, 4, 6, 4, 12, 14, 12, 14, 13, 15, 13, 15]);
+        let zero = sums.swizzle([0, 2, 0, 2, 1, 3, 1, 3, 11, 9, 11, 9, 10, 8, 10, 8]);
+        let one = sums.swizzle([3, 1, 3, 1, 2, 0, 2, 0, 8, 10, 8, 10, 9, 11, 9, 11]);
         (zero, one, one, zero)
     } else if phase == 2 {
         let zero = sums.swizzle([0, 2, 3, 1, 1, 3, 2, 0, 11, 9, 8, 10, 10, 8, 9, 11]);
         let one = sums.swizzle([3, 1, 0, 2, 2, 0, 1, 3, 8, 10, 11, 9, 9, 11, 10, 8]);
         (zero, one, zero, one)
     } else if phase == 3 {
-        let zero = sums.swizzle([4, 6, 7, 5, 7, 5, 4, 6, 12, 14, 15, 13, 15, 13, 12, 14]);
-        let one = sums.swizzle([7, 5, 4, 6, 4, 6, 7, 5, 15, 13, 12, 14, 12, 14, 15, 13]);
-        let last_zero = sums.swizzle([5, 7, 6, 4, 6, 4, 5, 7, 13, 15, 14, 12, 14, 12, 13, 15]);
-        let last_one = sums.swizzle([6, 4, 5, 7, 5, 7, 6, 4, 14, 12, 13, 15, 13, 15, 14, 12]);
+        let zero = sums.swizzle([0, 2, 3, 1, 3, 1, 0, 2, 8, 10, 11, 9, 11, 9, 8, 10]);
+        let one = sums.swizzle([3, 1, 0, 2, 0, 2, 3, 1, 11, 9, 8, 10, 8, 10, 11, 9]);
+        let last_zero = sums.swizzle([1, 3, 2, 0, 2, 0, 1, 3, 9, 11, 10, 8, 10, 8, 9, 11]);
+        let last_one = sums.swizzle([2, 0, 1, 3, 1, 3, 2, 0, 10, 8, 9, 11, 9, 11, 10, 8]);
         (zero, one, last_zero, last_one)
     } else if phase == 4 {
         let zero = sums.swizzle([0, 2, 3, 1, 3, 1, 0, 2, 9, 11, 10, 8, 10, 8, 9, 11]);
         let one = sums.swizzle([3, 1, 0, 2, 0, 2, 3, 1, 10, 8, 9, 11, 9, 11, 10, 8]);
         (zero, one, zero, one)
     } else {
-        let zero = sums.swizzle([4, 7, 7, 4, 4, 7, 7, 4, 13, 14, 14, 13, 13, 14, 14, 13]);
-        let one = sums.swizzle([7, 4, 4, 7, 7, 4, 4, 7, 14, 13, 13, 14, 14, 13, 13, 14]);
-        let last_zero = sums.swizzle([6, 5, 5, 6, 6, 5, 5, 6, 15, 12, 12, 15, 15, 12, 12, 15]);
-        let last_one = sums.swizzle([5, 6, 6, 5, 5, 6, 6, 5, 12, 15, 15, 12, 12, 15, 15, 12]);
+        let zero = sums.swizzle([0, 3, 3, 0, 0, 3, 3, 0, 9, 10, 10, 9, 9, 10, 10, 9]);
+        let one = sums.swizzle([3, 0, 0, 3, 3, 0, 0, 3, 10, 9, 9, 10, 10, 9, 9, 10]);
+        let last_zero = sums.swizzle([2, 1, 1, 2, 2, 1, 1, 2, 11, 8, 8, 11, 11, 8, 8, 11]);
+        let last_one = sums.swizzle([1, 2, 2, 1, 1, 2, 2, 1, 8, 11, 11, 8, 8, 11, 11, 8]);
         (zero, one, last_zero, last_one)
     }
 }

@@ -1,15 +1,14 @@
 // Six steps over the lanes, which leave them in their order.
 ghost use Rattle.std.specs.Prelude.{◌≡◌, ◌≤◌, ◌<◌, ◌+◌, ◌*◌, ◌/◌, ℕ, [], ◌∷◌, ◌++◌, length, slice_index, take};
-ghost use Rattle.std.specs.Prelude.{IsFalse, IsTrue, ◌%◌};
+ghost use Rattle.std.specs.Prelude.{IsFalse, IsTrue};
 ghost use Rattle.code_paths.specs.declared.costs.CostPair.{CostPair as Pair};
 ghost use Rattle.acs_plain.specs.Spread.{IsSpread};
 ghost use Rattle.acs_plain.specs.Steps.{AreSteps};
 ghost use Rattle.acs_lanes.specs.Lanes16.{all_with, joined, laid};
-ghost use Rattle.acs_lanes.specs.Phases.{IsLow, IsWordStep, both_sums, in_order, laid_in, next, pair_in, sum_word};
-ghost use Rattle.acs_lanes.specs.Phases.{way_in};
+ghost use Rattle.acs_lanes.specs.Phases.{IsLow, IsWordStep, all_sums, in_order, laid_in, next, sum_word, way_in};
 ghost use Rattle.acs_lanes.specs.Six.{AreSixSteps, HaveSums};
 
-use crate::cost_sums::{two_sums, write_sums};
+use crate::cost_sums::{sums_in, write_sums};
 use crate::lanes16::{Lanes, higher, is_high, lowered_if, reaches};
 use crate::phases::{costs_in, half_marks, turned_in, word_in};
 use crate::step16::pick;
@@ -38,9 +37,8 @@ fn may_be_high(phase: usize, low_first: u16x16, low_last: u16x16) -> bool
 fn step_in(phase: usize, old: Lanes, sums: u16x16) -> (Lanes, u64, bool)
     requires phase { phase < 6 }
     requires fit { (n : ℕ) → n < 64 → slice_index (joined old.a old.b old.c old.d) n ≤ 57345 }
-    requires sums { (x : Pair) × (y : Pair) × (sums ≡ both_sums x y) }
-    ensures step { (x y : Pair) → sums ≡ both_sums x y → IsWordStep (pair_in phase x y)
-        (laid_in phase old.a old.b old.c old.d)
+    requires sums { (pair : Pair) × (sums ≡ all_sums pair) }
+    ensures step { (pair : Pair) → sums ≡ all_sums pair → IsWordStep pair (laid_in phase old.a old.b old.c old.d)
         (laid_in (next phase) result.0.a result.0.b result.0.c result.0.d) (in_order phase result.1) }
     ensures low { IsFalse result.2 → (k : ℕ) → k < 16
         → slice_index (laid_in (next phase) result.0.a result.0.b result.0.c result.0.d) k < 32768 }
@@ -65,7 +63,6 @@ fn step_in(phase: usize, old: Lanes, sums: u16x16) -> (Lanes, u64, bool)
 #[inline(always)]
 fn two_in(phase: usize, from: Lanes, high: bool, words: &mut [u64], at: usize) -> (Lanes, bool)
     requires phase { phase < 5 }
-    requires even { phase % 2 ≡ 0 }
     requires spread { IsSpread (all_with (laid_in phase from.a from.b from.c from.d)) }
     requires room { IsFalse high → (n : ℕ) → n < 64 → slice_index (joined from.a from.b from.c from.d) n ≤ 49155 }
     requires more { at + 2 ≤ length words.old }
@@ -88,11 +85,10 @@ fn two_in(phase: usize, from: Lanes, high: bool, words: &mut [u64], at: usize) -
     ensures above { (k : ℕ) → at + 2 ≤ k → slice_index words.new k ≡ slice_index words.old k }
     ensures room { length words.new ≡ length words.old }
 {
-    let next = at + 1;
-    let sums = two_sums(words[at], words[next]);
-    let (middle, first_word, _) = step_in(phase, lowered_if(high, from), sums);
+    let (middle, first_word, _) = step_in(phase, lowered_if(high, from), sums_in(words[at]));
     words[at] = first_word;
-    let (last, last_word, is_high) = step_in(phase + 1, middle, sums);
+    let next = at + 1;
+    let (last, last_word, is_high) = step_in(phase + 1, middle, sums_in(words[next]));
     words[next] = last_word;
     (last, is_high)
 }
@@ -100,20 +96,21 @@ fn two_in(phase: usize, from: Lanes, high: bool, words: &mut [u64], at: usize) -
 /// Six steps, whose words have the sums of their costs before and their decisions after, in the order of the phases.
 /// `high` is false if all costs are below 32,768. Where the sums are low too, those of all six may be added.
 // Otherwise two steps lead from the same states to all those that agree in their lowest four bits. So their costs
-// differ by at most 16,380, and it is enough to look at one of each four.
+// differ by at most 16,380, and it is enough to look at one of each four. Each of the two forms has one caller, so that
+// LLVM makes it part of it.
 #[inline(always)]
-fn six_in(low: bool, from: Lanes, high: bool, words: &mut [u64], at: usize) -> Lanes
+fn six_in<const LOW: bool>(from: Lanes, high: bool, words: &mut [u64], at: usize) -> Lanes
     requires spread { IsSpread (all_with (laid from.a from.b from.c from.d)) }
     requires high { IsFalse high → (n : ℕ) → n < 64 → slice_index (joined from.a from.b from.c from.d) n < 32768 }
-    requires low { IsTrue low → IsFalse high }
+    requires low { IsTrue LOW → IsFalse high }
     requires more { at + 6 ≤ length words.old }
-    requires sums { HaveSums low words.old at }
+    requires sums { HaveSums LOW words.old at }
     ensures { AreSixSteps at (laid from.a from.b from.c from.d) (laid result.a result.b result.c result.d) words.old
         words.new }
 {
     let (second, second_high) = two_in(0, from, high, words, at);
-    let (fourth, fourth_high) = two_in(2, second, second_high & !low, words, at + 2);
-    let (last, _) = two_in(4, fourth, fourth_high & !low, words, at + 4);
+    let (fourth, fourth_high) = two_in(2, second, second_high & !LOW, words, at + 2);
+    let (last, _) = two_in(4, fourth, fourth_high & !LOW, words, at + 4);
     last
 }
 
@@ -128,9 +125,9 @@ fn six_steps(low: bool, from: Lanes, words: &mut [u64], at: usize) -> Lanes
 {
     let high = is_high(from);
     if low && !high {
-        six_in(true, from, false, words, at)
+        six_in::<true>(from, false, words, at)
     } else {
-        six_in(false, from, high, words, at)
+        six_in::<false>(from, high, words, at)
     }
 }
 

@@ -1,5 +1,5 @@
 use Rattle.std.proofs.Common.{◌∙◌, ◌*◌, sym, arith, ap, length}
-use Rattle.acs_lanes.proofs.FourSums.{all_low, four_more, most_more, words_are}
+use Rattle.acs_lanes.proofs.FourSums.{all_low, four_more, most_more}
 use Rattle.acs_lanes.proofs.cost_sums.write_sums.Goals as goal
 
 pub store-requires-clause-lanes : goal.store-requires-clause-lanes

@@ -1,4 +1,4 @@
-use Rattle.std.proofs.Common.{ℕ, ◌∙◌, ◌+◌, ◌*◌, ◌%◌, ◌<◌, subst, arith}
+use Rattle.std.proofs.Common.{◌∙◌, ◌+◌, ◌*◌, subst, arith}
 use Rattle.acs_lanes.specs.Phases.{IsLow}
 use Rattle.acs_lanes.proofs.Rows16.{pair_at, row_at, steps_more}
 use Rattle.acs_lanes.proofs.six.run_twelves.Goals as goal
