@@ -6,11 +6,12 @@ use Rattle.std.specs.Simd.Lanes.{zip2, Each1}
 use Rattle.code_paths.specs.declared.costs.CostPair.{CostPair}
 use Rattle.acs_lanes.specs.Lanes.{four}
 use Rattle.acs_lanes.specs.Lanes16.{word_of}
-use Rattle.acs_lanes.specs.Phases.{all_sums, sum_word}
-use Rattle.std.specs.Prelude.{slice_index}
+use Rattle.acs_lanes.specs.Phases.{IsLow, all_sums, sum_word}
+use Rattle.std.specs.Prelude.{slice_index, max}
 use Rattle.std.specs.List.{range_with_len}
 use Rattle.acs_lanes.proofs.Costs16.{lanes_of, pair_fits, pair_part, sums_are}
 use Rattle.acs_lanes.proofs.Laid.{at_range}
+use Rattle.acs_lanes.proofs.Rows16.{same_default}
 use Rattle.acs_lanes.proofs.WordParts.{four_by, lane_at, lanes_from, lanes_len, parts_repeated, word_at, words_from, words_len}
 
 -- ---- one word in all lanes
@@ -34,6 +35,14 @@ module _ (pair : CostPair) where
   pub sums_repeated : (word : ℕ) → word ≡ sum_word pair → lanes_from (word ∷ word ∷ word ∷ word ∷ []) ≡ all_sums pair
   sums_repeated word e =
       subst (λ w. lanes_from (w ∷ w ∷ w ∷ w ∷ []) ≡ all_sums pair) (sym e) (parts_repeated (pair.x0 + pair.y0) (pair.x0 + pair.y1) (pair.x1 + pair.y0) (pair.x1 + pair.y1) x0y0 x0y1 x1y0 x1y1)
+
+-- what holds of four numbers
+by_four : (P : ℕ → Type 0) → P 0 → P 1 → P 2 → P 3 → (i : ℕ) → i < 4 → P i
+by_four P a b c d zero l = a
+by_four P a b c d (suc zero) l = b
+by_four P a b c d (suc (suc zero)) l = c
+by_four P a b c d (suc (suc (suc zero))) l = d
+by_four P a b c d (suc (suc (suc (suc i)))) l = absurd (omega (arith, l))
 
 -- ---- four words
 
@@ -108,15 +117,23 @@ module _ (a b c d : CostPair) where
   word_is (suc (suc (suc zero))) l = word_at all sums_fit (all_fit all sums_fit) 3 l
   word_is (suc (suc (suc (suc j)))) l = absurd (omega arith)
 
-  pub four_sums_are : (w x y z : ℕ) → w ≡ word_of a → x ≡ word_of b → y ≡ word_of c → z ≡ word_of d → words_from (added_four (lanes_from (w ∷ x ∷ y ∷ z ∷ []))) ≡ four_words
+  pub four_sums_are : (w x y z : ℕ) → w ≡ word_of a → x ≡ word_of b → y ≡ word_of c → z ≡ word_of d → added_four (lanes_from (w ∷ x ∷ y ∷ z ∷ [])) ≡ all
   four_sums_are w x y z ew ex ey ez =
-      ap (λ l. words_from (added_four (lanes_from l))) (ap₂ (λ v l. v ∷ l) ew (ap₂ (λ v l. v ∷ l) ex (ap₂ (λ v w. v ∷ w ∷ []) ey ez)))
-      ∙ ap words_from (ap added_four costs_are ∙ sums_all)
-      ∙ same_number_lists (words_from all) four_words (words_len all) (λ j l. word_is j (omega (arith, l, words_len all)))
+      ap (λ l. added_four (lanes_from l)) (ap₂ (λ v l. v ∷ l) ew (ap₂ (λ v l. v ∷ l) ex (ap₂ (λ v w. v ∷ w ∷ []) ey ez))) ∙ ap added_four costs_are ∙ sums_all
+
+  pub words_are : (sums : List ℕ) → sums ≡ all → words_from sums ≡ four_words
+  words_are sums e = ap words_from e ∙ same_number_lists (words_from all) four_words (words_len all) (λ j l. word_is j (omega (arith, l, words_len all)))
+
+  sums_at : (r j : ℕ) → r < 4 → j < 4 → get_or (four (of_four r)) j 0 ≡ get_or all (4 * r + j) 0
+  sums_at zero j k l = by_four (λ j. get_or (four a) j 0 ≡ get_or all (4 * 0 + j) 0) refl refl refl refl j l
+  sums_at (suc zero) j k l = by_four (λ j. get_or (four b) j 0 ≡ get_or all (4 * 1 + j) 0) refl refl refl refl j l
+  sums_at (suc (suc zero)) j k l = by_four (λ j. get_or (four c) j 0 ≡ get_or all (4 * 2 + j) 0) refl refl refl refl j l
+  sums_at (suc (suc (suc zero))) j k l = by_four (λ j. get_or (four d) j 0 ≡ get_or all (4 * 3 + j) 0) refl refl refl refl j l
+  sums_at (suc (suc (suc (suc r)))) j k l = absurd (omega arith)
 
 -- ---- four words more
 
-map_at : (ps : List CostPair) (i : ℕ) (d : CostPair) → i < length ps → slice_index (map sum_word ps) i ≡ sum_word (get_or ps i d)
+pub map_at : (ps : List CostPair) (i : ℕ) (d : CostPair) → i < length ps → slice_index (map sum_word ps) i ≡ sum_word (get_or ps i d)
 map_at [] i d l = absurd (omega (arith, l))
 map_at (p ∷ ps) zero d l = refl
 map_at (p ∷ ps) (suc i) d l = map_at ps i d (omega (arith, l))
@@ -139,3 +156,34 @@ module _ (ps : List CostPair) (k : ℕ) (a b c d : CostPair) (sums old new : Lis
       go (inr n) =
           let e : 4 * k + (i - 4 * k) ≡ i = omega (arith, n) in
           ap (λ j. get_or new j 0) (sym e) ∙ each (i - 4 * k) (omega (arith, m, n)) ∙ ap (λ j. get_or (map sum_word ps) j 0) e
+
+-- ---- the highest sums
+
+-- each sum of the first pairs is at most that in its lane
+abbrev pub AreMost : List CostPair → ℕ → List ℕ → Type 0
+AreMost ps count most = (i j : ℕ) (d : CostPair) → i < count → j < 4 → get_or (four (get_or ps i d)) j 0 ≤ get_or most (4 * (i % 4) + j) 0
+
+module _ (ps : List CostPair) (k : ℕ) (a b c d : CostPair) (sums old new : List ℕ) (l : 4 * k + 4 ≤ length ps) (ea : get_or ps (4 * k) a ≡ a) (eb : get_or ps (4 * k + 1) b ≡ b) (ec : get_or ps (4 * k + 2) c ≡ c) (ed : get_or ps (4 * k + 3) d ≡ d)
+    (es : sums ≡ four a ++ (four b ++ (four c ++ four d))) (is : (i : ℕ) → i < 16 → get_or new i 0 ≡ max (get_or old i 0) (get_or sums i 0)) (h : AreMost ps (4 * k) old) where
+  pair_is : (r : ℕ) (e : CostPair) → r < 4 → get_or ps (4 * k + r) e ≡ of_four a b c d r
+  pair_is zero e m = let f : 4 * k + 0 ≡ 4 * k = omega arith in ap (λ i. get_or ps i e) f ∙ same_default ps (4 * k) e a (omega (arith, l)) ∙ ea
+  pair_is (suc zero) e m = same_default ps (4 * k + 1) e b (omega (arith, l)) ∙ eb
+  pair_is (suc (suc zero)) e m = same_default ps (4 * k + 2) e c (omega (arith, l)) ∙ ec
+  pair_is (suc (suc (suc zero))) e m = same_default ps (4 * k + 3) e d (omega (arith, l)) ∙ ed
+  pair_is (suc (suc (suc (suc r)))) e m = absurd (omega (arith, m))
+
+  pub most_more : AreMost ps (4 * (k + 1)) new
+  most_more i j e m n = go (cases_lt i (4 * k))
+    where
+      go : (i < 4 * k) ⊎ (4 * k ≤ i) → get_or (four (get_or ps i e)) j 0 ≤ get_or new (4 * (i % 4) + j) 0
+      go (inl q) = omega (arith, h i j e q n, is (4 * (i % 4) + j) (omega (arith, n)))
+      go (inr q) =
+          let r = i - 4 * k in
+          let s : r < 4 = omega (arith, m, q) in
+          let f : 4 * k + r ≡ i = omega (arith, q) in
+          let g : i % 4 ≡ r = omega (arith, q, m) in
+          let here = ap (λ i. get_or (four (get_or ps i e)) j 0) (sym f) ∙ ap (λ p. get_or (four p) j 0) (pair_is r e s) ∙ sums_at a b c d r j s n ∙ ap (λ z. get_or z (4 * r + j) 0) (sym es) in
+          omega (arith, here, g, is (4 * r + j) (omega (arith, s, n)), ap (λ z. get_or new (4 * z + j) 0) g)
+
+pub all_low : (ps : List CostPair) (count : ℕ) (most : List ℕ) → AreMost ps count most → ((i : ℕ) → i < 16 → get_or most i 0 < 4096) → (i : ℕ) (d : CostPair) → i < count → IsLow (get_or ps i d)
+all_low ps count most h f i d l j m = omega (arith, h i j d l m, f (4 * (i % 4) + j) (omega (arith, m)))

@@ -9,8 +9,8 @@ use Rattle.acs_lanes.specs.Lanes16.{joined, laid, place, state_at}
 use Rattle.acs_lanes.proofs.LaneLaws.{from_small}
 use Rattle.acs_lanes.proofs.Laid.{at_place, laid_at, place_small, state_small}
 
-pub lesser : (new old cost other most : ℕ) → new ≡ min (old + cost) other → old ≤ most → cost ≤ 8190 → new ≤ most + 8190
-lesser new old cost other most e l s = omega (arith, e, min-le_left (old + cost) other, l, s)
+pub lesser : (new old cost other most bound : ℕ) → new ≡ min (old + cost) other → old ≤ most → cost ≤ bound → new ≤ most + bound
+lesser new old cost other most bound e l s = omega (arith, e, min-le_left (old + cost) other, l, s)
 
 module _ (a b c d e f g h : List ℕ) (pair : CostPair) (low high most : ℕ) (s : IsLaneStep pair (laid a b c d) (laid e f g h) low high) (few : (n : ℕ) → n < 64 → slice_index (joined a b c d) n ≤ most) where
   before : (n : ℕ) → n < 64 → slice_index (laid a b c d) n ≤ most
@@ -22,9 +22,9 @@ module _ (a b c d e f g h : List ℕ) (pair : CostPair) (low high most : ℕ) (s
       each : (state_at p < 32) ⊎ (32 ≤ state_at p) → slice_index (joined e f g h) p ≤ most + 8190
       each (inl m) =
           let k = state_at p in
-          omega (arith, at_place e f g h p l, lesser _ _ _ _ most (s.low_cost k m) (before (2 * k) (omega (arith, m))) (from_small pair 0 false k))
+          omega (arith, at_place e f g h p l, lesser _ _ _ _ most 8190 (s.low_cost k m) (before (2 * k) (omega (arith, m))) (from_small pair 0 false k))
       each (inr m) =
           let k = state_at p - 32 in
           let n : k < 32 = omega (arith, state_small p l, m) in
           let there : k + 32 ≡ state_at p = omega (arith, m) in
-          omega (arith, at_place e f g h p l, ap (λ n. get_or (laid e f g h) n 0) there, lesser _ _ _ _ most (s.high_cost k n) (before (2 * k) (omega (arith, n))) (from_small pair 0 true k))
+          omega (arith, at_place e f g h p l, ap (λ n. get_or (laid e f g h) n 0) there, lesser _ _ _ _ most 8190 (s.high_cost k n) (before (2 * k) (omega (arith, n))) (from_small pair 0 true k))

@@ -4,7 +4,7 @@ use Rattle.std.proofs.lemmas.Simd.{tops_compared, get_or-zip2, get_or-sel_l, len
 use Rattle.std.proofs.lemmas.List.{get_or-replicate}
 use Rattle.std.proofs.lemmas.Bool.{cases_Bool, ltb-true, ltb-false, leb-false, eqb-true}
 use Rattle.std.specs.Simd.Lanes.{zip2, sel_l, mask_l, top}
-use Rattle.std.specs.Prelude.{slice_index, max, min, IsFalse}
+use Rattle.std.specs.Prelude.{slice_index, max, min, IsFalse, IsTrue}
 use Rattle.acs_lanes.specs.Lanes16.{AreClose, AreLanes, AreLowered, AreRoomy, joined}
 use Rattle.acs_lanes.proofs.Sums16.{less}
 use Rattle.acs_lanes.proofs.Quarters.{a_at, b_at, c_at, d_at, both_lanes}
@@ -67,33 +67,39 @@ none_set (true ∷ bs) h k = absurd (omega (arith, h))
 none_set (false ∷ bs) h zero = refl
 none_set (false ∷ bs) h (suc k) = none_set bs (omega (arith, h)) k
 
-abbrev tops : List ℕ → List Bool
-tops xs = map (top 15) (zip2 (λ a b. cond (leb a b) 65535 0) (replicate 16 32768) xs)
+abbrev tops : ℕ → List ℕ → List Bool
+tops bar xs = map (top 15) (zip2 (λ a b. cond (leb a b) 65535 0) (replicate 16 bar) xs)
 
-module _ (xs : List ℕ) (lx : length xs ≡ 16) where
-  tops_is : tops xs ≡ zip2 leb (replicate 16 32768) xs
-  tops_is = tops_compared w16 leb (replicate 16 32768) xs
+module _ (bar : ℕ) (xs : List ℕ) (lx : length xs ≡ 16) where
+  tops_is : tops bar xs ≡ zip2 leb (replicate 16 bar) xs
+  tops_is = tops_compared w16 leb (replicate 16 bar) xs
 
-  tops_len : length (tops xs) ≡ 16
-  tops_len = ap length tops_is ∙ length-zip2 leb (replicate 16 32768) xs (sym lx) ∙ refl
+  tops_len : length (tops bar xs) ≡ 16
+  tops_len = ap length tops_is ∙ length-zip2 leb (replicate 16 bar) xs (sym lx) ∙ refl
 
-  tops_at : (k : ℕ) → k < 16 → get_or (tops xs) k false ≡ leb 32768 (get_or xs k 0)
+  tops_at : (k : ℕ) → k < 16 → get_or (tops bar xs) k false ≡ leb bar (get_or xs k 0)
   tops_at k l =
-      ap (λ z. get_or z k false) tops_is ∙ get_or-zip2 leb (replicate 16 32768) xs k 0 0 false l (omega (arith, lx))
-      ∙ ap (λ z. leb z (get_or xs k 0)) (get_or-replicate 16 k 32768 0 l)
+      ap (λ z. get_or z k false) tops_is ∙ get_or-zip2 leb (replicate 16 bar) xs k 0 0 false l (omega (arith, lx))
+      ∙ ap (λ z. leb z (get_or xs k 0)) (get_or-replicate 16 k bar 0 l)
 
-  whole : mask_l (tops xs) % 2 ^ 64 ≡ mask_l (tops xs)
-  whole = mask_l-mod (tops xs) 64 (omega (arith, tops_len))
+  whole : mask_l (tops bar xs) % 2 ^ 64 ≡ mask_l (tops bar xs)
+  whole = mask_l-mod (tops bar xs) 64 (omega (arith, tops_len))
 
-  is_zero : (n : ℕ) → not (eqb n 0) ≡ false → n ≡ 0
-  is_zero n t = go (eqb n 0) refl t
-    where
-      go : (b : Bool) → eqb n 0 ≡ b → not b ≡ false → n ≡ 0
-      go true e f = eqb-true n 0 e
-      go false e f = absurd (true≢false f)
+  pub none_reach : mask_l (tops bar xs) % 2 ^ 64 ≡ 0 → (k : ℕ) → k < 16 → slice_index xs k < bar
+  none_reach e k l = leb-false bar (get_or xs k 0) (sym (tops_at k l) ∙ none_set (tops bar xs) (sym whole ∙ e) k)
 
-  pub reaches_low : IsFalse (not (eqb (mask_l (tops xs) % 2 ^ 64) 0)) → (k : ℕ) → k < 16 → slice_index xs k < 32768
-  reaches_low t k l = leb-false 32768 (get_or xs k 0) (sym (tops_at k l) ∙ none_set (tops xs) (sym whole ∙ is_zero (mask_l (tops xs) % 2 ^ 64) t) k)
+is_zero : (n : ℕ) → not (eqb n 0) ≡ false → n ≡ 0
+is_zero n t = go (eqb n 0) refl t
+  where
+    go : (b : Bool) → eqb n 0 ≡ b → not b ≡ false → n ≡ 0
+    go true e f = eqb-true n 0 e
+    go false e f = absurd (true≢false f)
+
+pub reaches_low : (xs : List ℕ) → length xs ≡ 16 → IsFalse (not (eqb (mask_l (tops 32768 xs) % 2 ^ 64) 0)) → (k : ℕ) → k < 16 → slice_index xs k < 32768
+reaches_low xs lx t = none_reach 32768 xs lx (is_zero (mask_l (tops 32768 xs) % 2 ^ 64) t)
+
+pub lanes_low : (xs : List ℕ) → length xs ≡ 16 → IsTrue (eqb (mask_l (tops 4096 xs) % 2 ^ 64) 0) → (k : ℕ) → k < 16 → slice_index xs k < 4096
+lanes_low xs lx t = none_reach 4096 xs lx (eqb-true (mask_l (tops 4096 xs) % 2 ^ 64) 0 t)
 
 -- of four vectors
 

@@ -15,7 +15,7 @@ use Rattle.code_paths.specs.States.{register}
 use Rattle.acs_plain.specs.Steps.{IsStep, alive, way, takes_odd}
 use Rattle.code_paths.specs.States.{even_of, odd_of}
 use Rattle.acs_lanes.specs.Lanes.{IsSettled, IsReady, AreSteps, AreLess, AreStepCosts, AreTaken, IsHalfStep, IsLaneStep, cost_from, four}
-use Rattle.acs_lanes.specs.Phases.{IsWordStep}
+use Rattle.acs_lanes.specs.Phases.{IsLow, IsWordStep}
 use Rattle.acs_plain.specs.Steps.{Close}
 use Rattle.code_paths.proofs.Words.{set_or, set_shl, not_lt}
 
@@ -115,6 +115,16 @@ four_small pair false false = omega (arith, pair.small.x0_small, pair.small.y0_s
 
 pub from_small : (pair : CostPair) (parity : ℕ) (input : Bool) (k : ℕ) → cost_from pair parity input k ≤ 8190
 from_small pair parity input k = four_small pair (parity_x (bits_at parity input k)) (parity_y (bits_at parity input k))
+
+-- costs of steps whose sums are all low
+pub from_low : (pair : CostPair) → IsLow pair → (parity : ℕ) (input : Bool) (k : ℕ) → cost_from pair parity input k ≤ 4095
+from_low pair low parity input k = at (parity_x (bits_at parity input k)) (parity_y (bits_at parity input k))
+  where
+    at : (x y : Bool) → cond x pair.x1 pair.x0 + cond y pair.y1 pair.y0 ≤ 4095
+    at false false = omega (arith, low 0 (omega arith))
+    at false true = omega (arith, low 1 (omega arith))
+    at true false = omega (arith, low 2 (omega arith))
+    at true true = omega (arith, low 3 (omega arith))
 
 -- the step of all lanes is that of all states
 module _ (old new : Sums) (low : ℕ) (pair : CostPair) (cost : List ℕ) (word : ℕ) (settled : IsSettled old new low) (h : IsWordStep pair new.cost cost word) where

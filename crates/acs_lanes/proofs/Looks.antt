@@ -1,8 +1,8 @@
 -- One of each four states is looked at.
-use Rattle.std.proofs.Common.{◌≡◌, ℕ, ◌-◌, ◌%◌, ◌<◌, ◌≤◌, List, ◌++◌, length, ◌⊎◌, inl, inr, refl, sym, subst, arith, lit≤}
+use Rattle.std.proofs.Common.{◌≡◌, ℕ, ◌-◌, ◌%◌, ◌<◌, ◌≤◌, Bool, true, false, true≢false, not, ◌&&◌, List, ◌++◌, length, ◌⊎◌, inl, inr, refl, sym, subst, arith, lit≤}
 use Rattle.std.proofs.lemmas.Bool.{cases_lt}
 use Rattle.std.proofs.lemmas.List.{get_or_append_left, get_or-append_right}
-use Rattle.std.specs.Prelude.{slice_index, max}
+use Rattle.std.specs.Prelude.{slice_index, max, IsFalse, IsTrue}
 use Rattle.acs_plain.specs.Spread.{IsSpread}
 use Rattle.acs_lanes.specs.Lanes16.{AreRoomy, all_with, joined}
 use Rattle.acs_lanes.specs.Phases.{laid_in, way_in}
@@ -51,3 +51,9 @@ roomy_low old f = record {
   lowered = record { less = 0; is = λ n l. omega arith; few = λ n l. omega (arith, f n l) };
   room = f;
 }
+
+-- what holds if a lane was not seen to be high, and if it need not be looked at
+pub unless_high : (high low : Bool) (P : Type 0) → (IsFalse high → P) → (IsTrue low → P) → IsFalse (high && not low) → P
+unless_high false low P f g t = f refl
+unless_high true true P f g t = g refl
+unless_high true false P f g t = absurd (true≢false t)

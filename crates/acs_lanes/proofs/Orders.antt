@@ -82,13 +82,13 @@ same_below_of from old new = (k : ℕ) → k < from → get_or new k 0 ≡ get_o
 abbrev pub same_above_of : ℕ → List ℕ → List ℕ → Type 0
 same_above_of from old new = (k : ℕ) → from + 4 ≤ k → get_or new k 0 ≡ get_or old k 0
 
-module _ (w0 w1 w2 w3 : List ℕ) (at : ℕ) (a : all_moved at (1 ∷ 8 ∷ 12 ∷ 14 ∷ []) (0 ∷ 280375465148160 ∷ 264913582878960 ∷ 225176545447116 ∷ []) w0 w1)
-    (b : all_moved (at + 4) (15 ∷ 15 ∷ 1 ∷ 8 ∷ []) (187647121205930 ∷ 187647121205930 ∷ 0 ∷ 280375465148160 ∷ []) w1 w2) (c : all_moved (at + 8) (12 ∷ 14 ∷ 15 ∷ 15 ∷ []) (264913582878960 ∷ 225176545447116 ∷ 187647121205930 ∷ 187647121205930 ∷ []) w2 w3)
+module _ (w0 w1 w2 w3 : List ℕ) (at : ℕ) (a : all_moved at (3 ∷ 8 ∷ 12 ∷ 14 ∷ []) (723401728380766730 ∷ 280375465148160 ∷ 264913582878960 ∷ 225176545447116 ∷ []) w0 w1)
+    (b : all_moved (at + 4) (15 ∷ 15 ∷ 3 ∷ 8 ∷ []) (187647121205930 ∷ 187647121205930 ∷ 723401728380766730 ∷ 280375465148160 ∷ []) w1 w2) (c : all_moved (at + 8) (12 ∷ 14 ∷ 15 ∷ 15 ∷ []) (264913582878960 ∷ 225176545447116 ∷ 187647121205930 ∷ 187647121205930 ∷ []) w2 w3)
     (up_a : same_above_of at w0 w1) (low_b : same_below_of (at + 4) w1 w2) (up_b : same_above_of (at + 4) w1 w2) (low_c : same_below_of (at + 8) w2 w3) where
   first : (k : ℕ) → k < 4 → get_or w3 (at + k) 0 ≡ in_order k (get_or w0 (at + k) 0)
   first k l = low_c (at + k) (omega (arith, l)) ∙ low_b (at + k) (omega (arith, l)) ∙ a k l ∙ by k l
     where
-      by : (k : ℕ) → k < 4 → moved_by (get_or (1 ∷ 8 ∷ 12 ∷ 14 ∷ []) k 0) (get_or (0 ∷ 280375465148160 ∷ 264913582878960 ∷ 225176545447116 ∷ []) k 0) (bit_not w64 (get_or w0 (at + k) 0)) ≡ in_order k (get_or w0 (at + k) 0)
+      by : (k : ℕ) → k < 4 → moved_by (get_or (3 ∷ 8 ∷ 12 ∷ 14 ∷ []) k 0) (get_or (723401728380766730 ∷ 280375465148160 ∷ 264913582878960 ∷ 225176545447116 ∷ []) k 0) (bit_not w64 (get_or w0 (at + k) 0)) ≡ in_order k (get_or w0 (at + k) 0)
       by zero l = refl
       by (suc zero) l = refl
       by (suc (suc zero)) l = refl
@@ -98,7 +98,7 @@ module _ (w0 w1 w2 w3 : List ℕ) (at : ℕ) (a : all_moved at (1 ∷ 8 ∷ 12 �
   middle : (k : ℕ) → k < 4 → get_or w3 (at + 4 + k) 0 ≡ in_order ((4 + k) % 6) (get_or w0 (at + 4 + k) 0)
   middle k l = low_c (at + 4 + k) (omega (arith, l)) ∙ b k l ∙ by k l ∙ ap (in_order ((4 + k) % 6)) (up_a (at + 4 + k) (omega arith))
     where
-      by : (k : ℕ) → k < 4 → moved_by (get_or (15 ∷ 15 ∷ 1 ∷ 8 ∷ []) k 0) (get_or (187647121205930 ∷ 187647121205930 ∷ 0 ∷ 280375465148160 ∷ []) k 0) (bit_not w64 (get_or w1 (at + 4 + k) 0)) ≡ in_order ((4 + k) % 6) (get_or w1 (at + 4 + k) 0)
+      by : (k : ℕ) → k < 4 → moved_by (get_or (15 ∷ 15 ∷ 3 ∷ 8 ∷ []) k 0) (get_or (187647121205930 ∷ 187647121205930 ∷ 723401728380766730 ∷ 280375465148160 ∷ []) k 0) (bit_not w64 (get_or w1 (at + 4 + k) 0)) ≡ in_order ((4 + k) % 6) (get_or w1 (at + 4 + k) 0)
       by zero l = refl
       by (suc zero) l = refl
       by (suc (suc zero)) l = refl

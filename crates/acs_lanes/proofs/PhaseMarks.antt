@@ -13,8 +13,8 @@ use Rattle.std.specs.Simd.Lanes.{zip2, mask_l, top}
 use Rattle.code_paths.proofs.Registers.{all_below, all_below_at}
 use Rattle.code_paths.proofs.Words.{pow-pos, set_and, set_not, set_shl, whole}
 use Rattle.spec_words.specs.Bits.{is_set, xor}
-use Rattle.acs_lanes.specs.Lanes16.{AreMarks}
-use Rattle.acs_lanes.specs.Phases.{by_halves, byte_of, differ, exchanged, in_order, mask_in, moved_by, ordered, shift_in, way_in}
+use Rattle.acs_lanes.specs.Lanes16.{AreMarks, way}
+use Rattle.acs_lanes.specs.Phases.{by_halves, byte_of, differ, exchanged, in_order, mask_in, moved_by, ordered, ordered_by, shift_in, way_in}
 use Rattle.acs_lanes.proofs.LaneLaws.{set_low_word, set_high_word}
 use Rattle.acs_lanes.proofs.Laid.{at_range}
 use Rattle.acs_lanes.proofs.Marks.{byte_at, holds_at, one}
@@ -35,9 +35,9 @@ not_below : (b : Bool) → leb 128 (cond b 0 255) ≡ not b
 not_below true = refl
 not_below false = refl
 
-module _ (p : ℕ) (in6 : p < 6) (first last : List ℕ) where
+module _ (lane : ℕ → ℕ) (small : (k : ℕ) → k < 32 → lane k < 32) (first last : List ℕ) where
   abbrev inner : List ℕ
-  inner = ordered p (by_halves first last)
+  inner = ordered_by lane (by_halves first last)
 
   marks_are : marks_by inner ≡ mask_l (map (leb 128) inner)
   marks_are =
@@ -51,23 +51,27 @@ module _ (p : ℕ) (in6 : p < 6) (first last : List ℕ) where
   half_small xs e = subst (λ z. marks_by z < 2 ^ 32) (sym e) ordered_small
 
   module _ (is_odd : ℕ → Bool) (m : AreMarks first last is_odd) where
-    inner_at : (k : ℕ) → k < 32 → get_or inner k 0 ≡ cond (is_odd (way_in p (exchanged p k))) 0 255
+    inner_at : (k : ℕ) → k < 32 → get_or inner k 0 ≡ cond (is_odd (lane k)) 0 255
     inner_at k l =
-        let w = way_in p (exchanged p k) in
-        let s : w < 32 = way_in_small p in6 (exchanged p k) (exchanged_small p in6 k l) in
+        let w = lane k in
+        let s : w < 32 = small k l in
         let b = by_halves first last in
         let n : length b ≡ 32 = refl in
-        at_range (λ i. slice_index (b ++ b) (byte_of (way_in p (exchanged p i)))) 32 k refl l
+        at_range (λ i. slice_index (b ++ b) (byte_of (lane i))) 32 k refl l
         ∙ get_or_append_left b b 0 (byte_of w) (omega (arith, n, s))
         ∙ byte_at first last is_odd m w s
 
-    half_at : (k : ℕ) → k < 32 → is_set (marks_by inner) k ≡ not (is_odd (way_in p (exchanged p k)))
+    half_at : (k : ℕ) → k < 32 → is_set (marks_by inner) k ≡ not (is_odd (lane k))
     half_at k l =
         ap (λ w. is_set w k) marks_are ∙ ap (λ z. eqb z 1) (bit_mask_l (map (leb 128) inner) k) ∙ one (get_or (map (leb 128) inner) k false)
-        ∙ holds_at (leb 128) inner k l ∙ ap (leb 128) (inner_at k l) ∙ not_below (is_odd (way_in p (exchanged p k)))
+        ∙ holds_at (leb 128) inner k l ∙ ap (leb 128) (inner_at k l) ∙ not_below (is_odd (lane k))
 
-    pub half_bits : (xs : List ℕ) → xs ≡ inner → (k : ℕ) → k < 32 → is_set (marks_by xs) k ≡ not (is_odd (way_in p (exchanged p k)))
-    half_bits xs e = subst (λ z. (k : ℕ) → k < 32 → is_set (marks_by z) k ≡ not (is_odd (way_in p (exchanged p k)))) (sym e) half_at
+    pub half_bits : (xs : List ℕ) → xs ≡ inner → (k : ℕ) → k < 32 → is_set (marks_by xs) k ≡ not (is_odd (lane k))
+    half_bits xs e = subst (λ z. (k : ℕ) → k < 32 → is_set (marks_by z) k ≡ not (is_odd (lane k))) (sym e) half_at
+
+-- the lanes of a phase in the order of the words' bits
+pub lane_small : (p : ℕ) → p < 6 → (k : ℕ) → k < 32 → way_in p (exchanged p k) < 32
+lane_small p in6 k l = way_in_small p in6 (exchanged p k) (exchanged_small p in6 k l)
 
 -- ---- bits that change places
 
@@ -141,7 +145,7 @@ moved s mask to t x n l =
 
 moved_in : (p : ℕ) → p < 6 → (x n : ℕ) → n < 64 → is_set (moved_by (shift_in p) (mask_in p) x) n ≡ is_set x (exchanged p n)
 moved_in =
-    by_phase (λ p. (x n : ℕ) → n < 64 → is_set (moved_by (shift_in p) (mask_in p) x) n ≡ is_set x (exchanged p n)) (moved 1 0 (exchanged 0) refl) (moved 8 280375465148160 (exchanged 1) refl) (moved 12 264913582878960 (exchanged 2) refl)
+    by_phase (λ p. (x n : ℕ) → n < 64 → is_set (moved_by (shift_in p) (mask_in p) x) n ≡ is_set x (exchanged p n)) (moved 3 723401728380766730 (exchanged 0) refl) (moved 8 280375465148160 (exchanged 1) refl) (moved 12 264913582878960 (exchanged 2) refl)
     (moved 14 225176545447116 (exchanged 3) refl) (moved 15 187647121205930 (exchanged 4) refl) (moved 15 187647121205930 (exchanged 5) refl)
 
 -- ---- words that are turned over
@@ -158,9 +162,9 @@ module _ (word : ℕ) (small : word < 2 ^ 32) where
   pub turned_small : bit_xor word 4294967295 < 2 ^ 32
   turned_small = xor_lt 32 word 4294967295 small (lit< tt)
 
-  pub turned_bits : (is_odd : ℕ → Bool) → ((k : ℕ) → k < 32 → is_set word k ≡ not (is_odd (way_in 0 (exchanged 0 k)))) → (k : ℕ) → k < 32 → is_set (bit_xor word 4294967295) k ≡ is_odd (way_in 0 k)
+  pub turned_bits : (is_odd : ℕ → Bool) → ((k : ℕ) → k < 32 → is_set word k ≡ not (is_odd (way k))) → (k : ℕ) → k < 32 → is_set (bit_xor word 4294967295) k ≡ is_odd (way k)
   turned_bits is_odd f k l =
-      set_xor word 4294967295 k ∙ with_one (is_set word k) (is_set 4294967295 k) (agree_below_at (is_set 4294967295) (λ k. true) 32 k refl l) ∙ ap not (f k l) ∙ twice (is_odd (way_in 0 k))
+      set_xor word 4294967295 k ∙ with_one (is_set word k) (is_set 4294967295 k) (agree_below_at (is_set 4294967295) (λ k. true) 32 k refl l) ∙ ap not (f k l) ∙ twice (is_odd (way k))
 
 -- bytes in the order of a phase
 pub ordered_as : (p q : ℕ) → p ≡ q → (xs bytes : List ℕ) → xs ≡ ordered q bytes → xs ≡ ordered p bytes

@@ -1,5 +1,5 @@
 -- The step over the lanes in each phase.
-use Rattle.std.proofs.Common.{◌≡◌, ℕ, zero, suc, ◌+◌, ◌-◌, ◌*◌, ◌/◌, ◌%◌, ◌^◌, ◌<◌, ◌≤◌, min, true, false, List, [], ◌∷◌, ◌++◌, map, length, get_or, ◌⊎◌, inl, inr, refl, sym, ap, ap₂, ◌∙◌, subst, arith, mod-lt, lit<, Fits, w16}
+use Rattle.std.proofs.Common.{◌≡◌, ℕ, zero, suc, ◌+◌, ◌-◌, ◌*◌, ◌/◌, ◌%◌, ◌^◌, ◌<◌, ◌≤◌, min, Bool, true, false, List, [], ◌∷◌, ◌++◌, map, length, get_or, ◌⊎◌, inl, inr, refl, sym, ap, ap₂, ◌∙◌, subst, arith, mod-lt, lit<, Fits, w16}
 use Rattle.std.proofs.lemmas.Bool.{cases_lt}
 use Rattle.std.proofs.lemmas.Grind.{same_number_lists}
 use Rattle.std.proofs.lemmas.List.{get_or_append_left, get_or-append_right}
@@ -10,12 +10,13 @@ use Rattle.std.specs.Simd.Lanes.{Each1}
 use Rattle.spec_words.specs.Bits.{is_set}
 use Rattle.code_paths.specs.declared.costs.CostPair.{CostPair}
 use Rattle.acs_plain.specs.Steps.{IsStep}
+use Rattle.acs_lanes.specs.Lanes.{cost_from}
 use Rattle.acs_lanes.specs.Lanes16.{AreLanes, AreLesser, AreLowered, all_with, joined}
 use Rattle.acs_lanes.proofs.Highs.{lowered_same}
 use Rattle.acs_lanes.proofs.Shifts.{word_step}
-use Rattle.acs_lanes.specs.Phases.{AreCostsIn, AreTurnedIn, IsWordStep, laid_in, lower_eights, lower_fours, next, place_in, upper_eights, upper_fours, way_in}
+use Rattle.acs_lanes.specs.Phases.{AreCostsIn, AreTurnedIn, IsLow, IsWordStep, laid_in, lower_eights, lower_fours, next, place_in, upper_eights, upper_fours, way_in}
 use Rattle.acs_lanes.proofs.Grows.{lesser}
-use Rattle.acs_lanes.proofs.LaneLaws.{from_small}
+use Rattle.acs_lanes.proofs.LaneLaws.{from_low, from_small}
 use Rattle.acs_lanes.proofs.Laid.{at_range}
 use Rattle.acs_lanes.proofs.PhaseTables.{at_place_in, even_place, laid_in_at, lowered_in, odd_place, place_in_small, state_in, state_in_small, way_in_small}
 use Rattle.acs_lanes.proofs.Quarters.{both_lanes, first_at, last_at}
@@ -155,22 +156,29 @@ module _ (p : ℕ) (in6 : p < 6) (pair : CostPair) (oa ob oc od zf of zl ol lf l
 
 -- ---- what a step adds at most
 
-module _ (p : ℕ) (in6 : p < 6) (a b c d e f g h : List ℕ) (pair : CostPair) (word most : ℕ) (s : IsWordStep pair (laid_in p a b c d) (laid_in (next p) e f g h) word) (few : (n : ℕ) → n < 64 → slice_index (joined a b c d) n ≤ most) where
+module _ (p : ℕ) (in6 : p < 6) (a b c d e f g h : List ℕ) (pair : CostPair) (word most cost : ℕ) (s : IsWordStep pair (laid_in p a b c d) (laid_in (next p) e f g h) word) (few : (n : ℕ) → n < 64 → slice_index (joined a b c d) n ≤ most)
+    (small : (parity : ℕ) (input : Bool) (k : ℕ) → cost_from pair parity input k ≤ cost) where
   before : (n : ℕ) → n < 64 → slice_index (laid_in p a b c d) n ≤ most
   before n l = omega (arith, laid_in_at p in6 a b c d n l, few (place_in p n) (place_in_small p in6 n l))
 
-  pub grown_in : (q : ℕ) → q < 64 → slice_index (joined e f g h) q ≤ most + 8190
-  grown_in q l = each (cases_lt (state_in (next p) q) 32)
+  pub grown_by : (q : ℕ) → q < 64 → slice_index (joined e f g h) q ≤ most + cost
+  grown_by q l = each (cases_lt (state_in (next p) q) 32)
     where
-      each : (state_in (next p) q < 32) ⊎ (32 ≤ state_in (next p) q) → slice_index (joined e f g h) q ≤ most + 8190
+      each : (state_in (next p) q < 32) ⊎ (32 ≤ state_in (next p) q) → slice_index (joined e f g h) q ≤ most + cost
       each (inl m) =
           let k = state_in (next p) q in
-          omega (arith, at_place_in (next p) (next_small p) e f g h q l, lesser _ _ _ _ most (s.low_cost k m) (before (2 * k) (omega (arith, m))) (from_small pair 0 false k))
+          omega (arith, at_place_in (next p) (next_small p) e f g h q l, lesser _ _ _ _ most cost (s.low_cost k m) (before (2 * k) (omega (arith, m))) (small 0 false k))
       each (inr m) =
           let k = state_in (next p) q - 32 in
           let n : k < 32 = omega (arith, state_in_small (next p) (next_small p) q l, m) in
           let there : k + 32 ≡ state_in (next p) q = omega (arith, m) in
-          omega (arith, at_place_in (next p) (next_small p) e f g h q l, ap (λ n. get_or (laid_in (next p) e f g h) n 0) there, lesser _ _ _ _ most (s.high_cost k n) (before (2 * k) (omega (arith, n))) (from_small pair 0 true k))
+          omega (arith, at_place_in (next p) (next_small p) e f g h q l, ap (λ n. get_or (laid_in (next p) e f g h) n 0) there, lesser _ _ _ _ most cost (s.high_cost k n) (before (2 * k) (omega (arith, n))) (small 0 true k))
+
+pub grown_in : (p : ℕ) → p < 6 → (a b c d e f g h : List ℕ) (pair : CostPair) (word most : ℕ) → IsWordStep pair (laid_in p a b c d) (laid_in (next p) e f g h) word → ((n : ℕ) → n < 64 → slice_index (joined a b c d) n ≤ most) → (q : ℕ) → q < 64 → slice_index (joined e f g h) q ≤ most + 8190
+grown_in p in6 a b c d e f g h pair word most s few = grown_by p in6 a b c d e f g h pair word most 8190 s few (from_small pair)
+
+pub grown_low : (p : ℕ) → p < 6 → (a b c d e f g h : List ℕ) (pair : CostPair) (word most : ℕ) → IsWordStep pair (laid_in p a b c d) (laid_in (next p) e f g h) word → ((n : ℕ) → n < 64 → slice_index (joined a b c d) n ≤ most) → IsLow pair → (q : ℕ) → q < 64 → slice_index (joined e f g h) q ≤ most + 4095
+grown_low p in6 a b c d e f g h pair word most s few low = grown_by p in6 a b c d e f g h pair word most 4095 s few (from_low pair low)
 
 -- ---- steps in a row
 
@@ -184,3 +192,7 @@ second_step p in5 a b c d e f g h y w fit s =
     let q : p + 1 ≡ next p = omega (arith, in5) in
     word_step y (laid_in (next p) a b c d) (laid_in (next p) a b c d) (laid_in (next (p + 1)) e f g h) w (lowered_in (next p) (next_small p) a b c d a b c d (lowered_same (joined a b c d) fit))
     (subst (λ q. IsWordStep y (laid_in q a b c d) (laid_in (next (p + 1)) e f g h) w) q s)
+
+-- lanes that were lowered are no higher
+pub no_higher : (old new : List ℕ) (most : ℕ) → AreLowered old new → ((n : ℕ) → n < 64 → slice_index old n ≤ most) → (n : ℕ) → n < 64 → slice_index new n ≤ most
+no_higher old new most r f n l = omega (arith, r.is n l, f n l)

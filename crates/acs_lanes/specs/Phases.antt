@@ -56,6 +56,10 @@ sum_word pair = word_by (pair.x0 + pair.y0) (pair.x0 + pair.y1) (pair.x1 + pair.
 abbrev pub all_sums : CostPair → List ℕ
 all_sums pair = map (λ k. slice_index (four pair) (k % 4)) (range_with_len 0 16)
 
+-- all four sums of a pair are so low that those of six steps can be added to costs below 32,768
+abbrev pub IsLow : CostPair → Type 0
+IsLow pair = (j : ℕ) → j < 4 → slice_index (four pair) j < 4096
+
 -- What the steps cost in the first and in the last vectors: from the even states on 0, as from the odd ones on 1, and
 -- from the even ones on 1, as from the odd ones on 0.
 pub record AreCostsIn (phase : ℕ) (pair : CostPair) (zero_first one_first zero_last one_last : List ℕ) : Type 0 where
@@ -85,10 +89,9 @@ differ shift mask word = bit_and (bit_xor (word / 2 ^ shift) word) mask
 abbrev pub moved_by : ℕ → ℕ → ℕ → ℕ
 moved_by shift mask word = bit_xor (bit_xor word (differ shift mask word)) (differ shift mask word * 2 ^ shift % 2 ^ 64)
 
--- The bit of a state's number that says which half of a vector it is in has its place among the bits of a word only
--- after this exchange.
+-- Bits of a state's number have their places among the bits of a word only after this exchange of two of them.
 abbrev pub shift_in : ℕ → ℕ
-shift_in zero = 1
+shift_in zero = 3
 shift_in (suc zero) = 8
 shift_in (suc (suc zero)) = 12
 shift_in (suc (suc (suc zero))) = 14
@@ -96,7 +99,7 @@ shift_in (suc (suc (suc (suc p)))) = 15
 
 -- the bits of a decision word that this exchange moves
 abbrev pub mask_in : ℕ → ℕ
-mask_in zero = 0
+mask_in zero = 723401728380766730
 mask_in (suc zero) = 280375465148160
 mask_in (suc (suc zero)) = 264913582878960
 mask_in (suc (suc (suc zero))) = 225176545447116
@@ -108,9 +111,9 @@ abbrev pub in_order : ℕ → ℕ → ℕ
 in_order phase word = moved_by (shift_in phase) (mask_in phase) (bit_not w64 word)
 
 -- Bytes are put in order within each half of a vector, so bit 4 of a state's number is still the one that says which
--- half.
+-- half. In the first phase they stay as they are, and it is bits 0 and 2 that are exchanged.
 abbrev pub exchanged : ℕ → ℕ → ℕ
-exchanged zero n = n
+exchanged zero n = n / 8 * 8 + 4 * (n % 2) + 2 * (n / 2 % 2) + n / 4 % 2
 exchanged (suc zero) n = swapped 3 n
 exchanged (suc (suc zero)) n = swapped 2 n
 exchanged (suc (suc (suc zero))) n = swapped 1 n
@@ -124,9 +127,13 @@ by_halves x y = map (λ k. slice_index (x ++ y) (k / 16 * 8 + k % 8 + 16 * (k / 
 abbrev pub byte_of : ℕ → ℕ
 byte_of w = 16 * (w / 8 % 2) + 8 * (w / 16) + w % 8
 
+-- the bytes that have the marks of these lanes
+abbrev pub ordered_by : (ℕ → ℕ) → List ℕ → List ℕ
+ordered_by lane bytes = map (λ i. slice_index (bytes ++ bytes) (byte_of (lane i))) (range_with_len 0 32)
+
 -- bytes in the order of the words' bits
 abbrev pub ordered : ℕ → List ℕ → List ℕ
-ordered p bytes = map (λ i. slice_index (bytes ++ bytes) (byte_of (way_in p (exchanged p i)))) (range_with_len 0 32)
+ordered p = ordered_by (λ i. way_in p (exchanged p i))
 
 -- the lower four of each eight lanes of two vectors in turn
 abbrev pub lower_fours : List ℕ → List ℕ → List ℕ

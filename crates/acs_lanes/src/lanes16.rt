@@ -146,7 +146,7 @@ pub(crate) fn reaches(lanes: u16x16) -> bool
 
 /// Is some lane so high that the greatest costs of two steps might not fit?
 #[inline(always)]
-fn is_high(lanes: Lanes) -> bool
+pub(crate) fn is_high(lanes: Lanes) -> bool
     ensures low { IsFalse result → (n : ℕ) → n < 64 → slice_index (joined lanes.a lanes.b lanes.c lanes.d) n < 32768 }
 {
     reaches(higher(higher(lanes.a, lanes.b), higher(lanes.c, lanes.d)))

@@ -2,9 +2,10 @@
 ghost use Rattle.std.specs.Prelude.{◌≡◌, ◌≤◌, ◌<◌, ◌+◌, ◌*◌, ◌%◌, ◌^◌, ◌++◌, ℕ, Bool, not, length, slice_index};
 ghost use Rattle.spec_words.specs.Bits.{is_set};
 ghost use Rattle.code_paths.specs.declared.costs.CostPair.{CostPair as Pair};
-ghost use Rattle.acs_lanes.specs.Lanes16.{AreMarks};
+ghost use Rattle.acs_lanes.specs.Lanes16.{AreMarks, way};
 ghost use Rattle.acs_lanes.specs.Phases.{AreCostsIn, AreTurnedIn, all_sums, by_halves, exchanged, in_order, laid_in};
-ghost use Rattle.acs_lanes.specs.Phases.{lower_eights, lower_fours, next, ordered, upper_eights, upper_fours, way_in};
+ghost use Rattle.acs_lanes.specs.Phases.{lower_eights, lower_fours, next, ordered, ordered_by};
+ghost use Rattle.acs_lanes.specs.Phases.{upper_eights, upper_fours, way_in};
 
 use crate::lanes16::Lanes;
 use std::simd::cmp::SimdPartialOrd;
@@ -48,7 +49,8 @@ pub(crate) fn costs_in(phase: usize, sums: u16x16) -> (u16x16, u16x16, u16x16, u
     }
 }
 
-/// The bytes of marks in the order of a word's bits: within each half of the vector, where one instruction does it.
+/// The bytes of marks in the order of a word's bits: within each half of the vector, where one instruction does it. In
+/// the first phase none is needed.
 #[inline(always)]
 fn ordered_in(phase: usize, bytes: u8x32) -> u8x32
     requires { phase < 6 }
@@ -56,8 +58,8 @@ fn ordered_in(phase: usize, bytes: u8x32) -> u8x32
 {
     if phase == 0 {
         bytes.swizzle([
-            0, 4, 2, 6, 1, 5, 3, 7, 8, 12, 10, 14, 9, 13, 11, 15, 16, 20, 18, 22, 17, 21, 19, 23,
-            24, 28, 26, 30, 25, 29, 27, 31,
+            0, 1, 2, 3, 4, 5, 6, 7, 8, 9, 10, 11, 12, 13, 14, 15, 16, 17, 18, 19, 20, 21, 22, 23,
+            24, 25, 26, 27, 28, 29, 30, 31,
         ])
     } else if phase == 1 {
         bytes.swizzle([
@@ -114,13 +116,24 @@ pub(crate) fn half_marks(phase: usize, first: u8x16, last: u8x16) -> u64
     bytes.simd_ge(u8x32::splat(128)).to_bitmask()
 }
 
-/// The word of the lanes of two vectors that have no mark, in the order of the first phase.
+/// The bytes of marks in the order of states below 32, in the first phase.
+fn in_states(bytes: u8x32) -> u8x32
+    ensures { result ≡ ordered_by way bytes }
+{
+    bytes.swizzle([
+        0, 4, 2, 6, 1, 5, 3, 7, 8, 12, 10, 14, 9, 13, 11, 15, 16, 20, 18, 22, 17, 21, 19, 23, 24,
+        28, 26, 30, 25, 29, 27, 31,
+    ])
+}
+
+/// The word of the lanes of two vectors that have no mark, in the order of states, in the first phase.
 pub(crate) fn half_word(first: u8x16, last: u8x16) -> u64
     ensures small { result < 2 ^ 32 }
     ensures bits { (is_odd : ℕ → Bool) → AreMarks first last is_odd → (k : ℕ) → k < 32 → is_set result k
-        ≡ is_odd (way_in 0 k) }
+        ≡ is_odd (way k) }
 {
-    half_marks(0, first, last) ^ 0xFFFF_FFFF
+    let bytes = in_states(by_halves(first, last));
+    bytes.simd_ge(u8x32::splat(128)).to_bitmask() ^ 0xFFFF_FFFF
 }
 
 /// The word of the states that the even way leads to, by the marks of those below 32 and of the others, before its bits

@@ -1,14 +1,15 @@
 // Six steps over the lanes, which leave them in their order.
 ghost use Rattle.std.specs.Prelude.{◌≡◌, ◌≤◌, ◌<◌, ◌+◌, ◌*◌, ◌/◌, ℕ, [], ◌∷◌, ◌++◌, length, slice_index, take};
-ghost use Rattle.std.specs.Prelude.{IsFalse};
+ghost use Rattle.std.specs.Prelude.{IsFalse, IsTrue};
 ghost use Rattle.code_paths.specs.declared.costs.CostPair.{CostPair as Pair};
 ghost use Rattle.acs_plain.specs.Spread.{IsSpread};
 ghost use Rattle.acs_plain.specs.Steps.{AreSteps};
 ghost use Rattle.acs_lanes.specs.Lanes16.{all_with, joined, laid};
-ghost use Rattle.acs_lanes.specs.Phases.{IsWordStep, all_sums, in_order, laid_in, next, sum_word, way_in};
+ghost use Rattle.acs_lanes.specs.Phases.{IsLow, IsWordStep, all_sums, in_order, laid_in, next, sum_word, way_in};
+ghost use Rattle.acs_lanes.specs.Six.{AreSixSteps, HaveSums};
 
 use crate::cost_sums::{sums_in, write_sums};
-use crate::lanes16::{Lanes, higher, lowered_if, reaches};
+use crate::lanes16::{Lanes, higher, is_high, lowered_if, reaches};
 use crate::phases::{costs_in, half_marks, turned_in, word_in};
 use crate::step16::pick;
 use crate::word_order::order_words;
@@ -57,16 +58,13 @@ fn step_in(phase: usize, old: Lanes, sums: u16x16) -> (Lanes, u64, bool)
 }
 
 /// Two steps, whose words have the sums of their costs before and their decisions after, in the order of the phases.
-/// First the lanes are made such that the costs of both may be added: `high` is false if the costs of the states below
-/// 16 are below 32,768, and the answer says the same of the new ones.
-// Two steps lead from the same states to all those that agree in their lowest four bits. So their costs differ by at
-// most 16,380, and it is enough to look at one of each four.
+/// First the lanes are made such that the costs of both may be added: `high` is false if that is so already. The answer
+/// says whether one of the new costs of the states below 16 may be at least 32,768.
 #[inline(always)]
 fn two_in(phase: usize, from: Lanes, high: bool, words: &mut [u64], at: usize) -> (Lanes, bool)
     requires phase { phase < 5 }
     requires spread { IsSpread (all_with (laid_in phase from.a from.b from.c from.d)) }
-    requires low { IsFalse high → (k : ℕ) → k < 16
-        → slice_index (laid_in phase from.a from.b from.c from.d) k < 32768 }
+    requires room { IsFalse high → (n : ℕ) → n < 64 → slice_index (joined from.a from.b from.c from.d) n ≤ 49155 }
     requires more { at + 2 ≤ length words.old }
     requires first { (pair : Pair) × (slice_index words.old at ≡ sum_word pair) }
     requires last { (pair : Pair) × (slice_index words.old (at + 1) ≡ sum_word pair) }
@@ -79,6 +77,10 @@ fn two_in(phase: usize, from: Lanes, high: bool, words: &mut [u64], at: usize) -
         (laid_in (next (phase + 1)) result.0.a result.0.b result.0.c result.0.d)) }
     ensures low { IsFalse result.1 → (k : ℕ) → k < 16
         → slice_index (laid_in (next (phase + 1)) result.0.a result.0.b result.0.c result.0.d) k < 32768 }
+    ensures grown { (x y : Pair) (most : ℕ) → slice_index words.old at ≡ sum_word x
+        → slice_index words.old (at + 1) ≡ sum_word y → IsLow x → IsLow y
+        → ((n : ℕ) → n < 64 → slice_index (joined from.a from.b from.c from.d) n ≤ most)
+        → (n : ℕ) → n < 64 → slice_index (joined result.0.a result.0.b result.0.c result.0.d) n ≤ most + 8190 }
     ensures below { (k : ℕ) → k < at → slice_index words.new k ≡ slice_index words.old k }
     ensures above { (k : ℕ) → at + 2 ≤ k → slice_index words.new k ≡ slice_index words.old k }
     ensures room { length words.new ≡ length words.old }
@@ -89,6 +91,44 @@ fn two_in(phase: usize, from: Lanes, high: bool, words: &mut [u64], at: usize) -
     let (last, last_word, is_high) = step_in(phase + 1, middle, sums_in(words[next]));
     words[next] = last_word;
     (last, is_high)
+}
+
+/// Six steps, whose words have the sums of their costs before and their decisions after, in the order of the phases.
+/// `high` is false if all costs are below 32,768. Where the sums are low too, those of all six may be added.
+// Otherwise two steps lead from the same states to all those that agree in their lowest four bits. So their costs
+// differ by at most 16,380, and it is enough to look at one of each four. Each of the two forms has one caller, so that
+// LLVM makes it part of it.
+#[inline(always)]
+fn six_in<const LOW: bool>(from: Lanes, high: bool, words: &mut [u64], at: usize) -> Lanes
+    requires spread { IsSpread (all_with (laid from.a from.b from.c from.d)) }
+    requires high { IsFalse high → (n : ℕ) → n < 64 → slice_index (joined from.a from.b from.c from.d) n < 32768 }
+    requires low { IsTrue LOW → IsFalse high }
+    requires more { at + 6 ≤ length words.old }
+    requires sums { HaveSums LOW words.old at }
+    ensures { AreSixSteps at (laid from.a from.b from.c from.d) (laid result.a result.b result.c result.d) words.old
+        words.new }
+{
+    let (second, second_high) = two_in(0, from, high, words, at);
+    let (fourth, fourth_high) = two_in(2, second, second_high & !LOW, words, at + 2);
+    let (last, _) = two_in(4, fourth, fourth_high & !LOW, words, at + 4);
+    last
+}
+
+/// The same, whatever the costs are. `low` says whether all sums are low.
+#[inline(always)]
+fn six_steps(low: bool, from: Lanes, words: &mut [u64], at: usize) -> Lanes
+    requires spread { IsSpread (all_with (laid from.a from.b from.c from.d)) }
+    requires more { at + 6 ≤ length words.old }
+    requires sums { HaveSums low words.old at }
+    ensures { AreSixSteps at (laid from.a from.b from.c from.d) (laid result.a result.b result.c result.d) words.old
+        words.new }
+{
+    let high = is_high(from);
+    if low && !high {
+        six_in::<true>(from, false, words, at)
+    } else {
+        six_in::<false>(from, high, words, at)
+    }
 }
 
 /// The steps by twelves, as far as there are such.
@@ -103,13 +143,10 @@ pub(crate) fn run_twelves(from: Lanes, pairs: &[CostPair], words: &mut [u64]) ->
     ensures spread { IsSpread (all_with (laid result.a result.b result.c result.d)) }
     ensures room { length words.new ≡ length pairs.now }
 {
-    write_sums(pairs, words);
+    let low = write_sums(pairs, words);
     let mut lanes = from;
-    let mut high = true;
     for k in 0..2 * (pairs.len() / 12) {
-        let (second, second_high) = two_in(0, lanes, high, words, 6 * k);
-        let (fourth, fourth_high) = two_in(2, second, second_high, words, 6 * k + 2);
-        (lanes, high) = two_in(4, fourth, fourth_high, words, 6 * k + 4);
+        lanes = six_steps(low, lanes, words, 6 * k);
     }
     order_words(words);
     lanes

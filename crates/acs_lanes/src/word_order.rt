@@ -53,9 +53,9 @@ fn order_twelve(words: &mut [u64], from: usize)
     move_four(
         words,
         from,
-        [1, 8, 12, 14],
+        [3, 8, 12, 14],
         [
-            0,
+            0x0A0A_0A0A_0A0A_0A0A,
             0x0000_FF00_0000_FF00,
             0x0000_F0F0_0000_F0F0,
             0x0000_CCCC_0000_CCCC,
@@ -64,11 +64,11 @@ fn order_twelve(words: &mut [u64], from: usize)
     move_four(
         words,
         from + 4,
-        [15, 15, 1, 8],
+        [15, 15, 3, 8],
         [
             0x0000_AAAA_0000_AAAA,
             0x0000_AAAA_0000_AAAA,
-            0,
+            0x0A0A_0A0A_0A0A_0A0A,
             0x0000_FF00_0000_FF00,
         ],
     );

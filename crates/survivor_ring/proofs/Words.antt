@@ -1,115 +1,86 @@
 -- The meaning of the words in the ring.
-use Rattle.std.proofs.Common.{◌≡◌, ℕ, zero, suc, ◌+◌, ◌-◌, ◌*◌, ◌/◌, ◌%◌, ◌^◌, ◌<◌, ◌≤◌, Bool, true, false, cond, not, ◌&&◌, ◌||◌, ◌⊎◌, inl, inr, refl, sym, ap, ap₂, ◌∙◌, arith, eqb, bit_and, bit_or}
+use Rattle.std.proofs.Common.{◌≡◌, ℕ, zero, suc, ◌+◌, ◌-◌, ◌*◌, ◌/◌, ◌%◌, ◌^◌, ◌<◌, ◌≤◌, Bool, true, false, cond, not, ◌&&◌, ◌||◌, ◌⊎◌, inl, inr, refl, sym, ap, ap₂, ◌∙◌, arith, eqb, bit_and, bit_or, get_or, mod-lt}
 use Rattle.std.specs.Bool.{nat_lt}
-use Rattle.std.specs.Int.{bit_not, w64}
-use Rattle.std.specs.Prelude.{⊤}
-use Rattle.std.proofs.lemmas.Bool.{cases_lt, lt-ltb}
-use Rattle.std.proofs.lemmas.Nat.Bits.{bit_at_above}
+use Rattle.std.specs.Int.{bit_at, bit_not, w64}
+use Rattle.std.proofs.lemmas.Bool.{agree_below_at, cases_lt, ltb-true}
+use Rattle.std.proofs.lemmas.Nat.Bits.{bit_at_cat_high, bit_at_cat_low}
 use Rattle.spec_words.specs.Bits.{is_set}
-use Rattle.survivor_ring.specs.Ring.{moved, leads, AreBefore}
-use Rattle.code_paths.proofs.Words.{not_lt, set_or, set_and, set_not, set_shr, set_shl, ones32, and_true}
+use Rattle.survivor_ring.specs.Ring.{leads, AreBefore}
+use Rattle.survivor_ring.specs.declared.ring.TheConstants.{SPREAD}
+use Rattle.code_paths.proofs.Words.{not_lt, pow-pos, set_or, set_and, set_low, set_not, set_shr, set_shl, ones32, and_true, whole}
 
 pub folded_is : (word k : ℕ) → k < 32 → is_set (bit_and (bit_or word (word / 2 ^ 32)) 4294967295) k ≡ (is_set word k || is_set word (k + 32))
 folded_is word k l = set_and (bit_or word (word / 2 ^ 32)) 4294967295 k ∙ ap (λ b. is_set (bit_or word (word / 2 ^ 32)) k && b) (ones32 k l) ∙ and_true (is_set (bit_or word (word / 2 ^ 32)) k) ∙ set_or word (word / 2 ^ 32) k ∙ ap (λ b. is_set word k || b) (set_shr word k)
 
-pub staged : (word s mask k : ℕ) → k < 64 → is_set (bit_and (bit_or word (word * 2 ^ s % 2 ^ 64)) mask) k ≡ moved (is_set mask) s (is_set word) k
-staged word s mask k l =
-    set_and (bit_or word (word * 2 ^ s % 2 ^ 64)) mask k ∙ ap (λ b. b && is_set mask k) (set_or word (word * 2 ^ s % 2 ^ 64) k ∙ ap (λ b. is_set word k || b) (set_shl word s k l))
-    ∙ turn (is_set word k || (not (nat_lt k s) && is_set word (k - s))) (is_set mask k)
-  where
-    turn : (a b : Bool) → (a && b) ≡ (b && a)
-    turn true true = refl
-    turn true false = refl
-    turn false true = refl
-    turn false false = refl
-
-abbrev Same : ℕ → (ℕ → Bool) → (ℕ → Bool) → Type 0
-Same n f h = (k : ℕ) → k < n → f k ≡ h k
-
-moved_same : (mask : ℕ → Bool) (s : ℕ) (f h : ℕ → Bool) → Same 64 f h → Same 64 (moved mask s f) (moved mask s h)
-moved_same mask s f h e k l = ap₂ (λ a b. mask k && (a || (not (nat_lt k s) && b))) (e k l) (e (k - s) (omega arith))
-
--- equal at each of the first indices
-abbrev AllSame : (ℕ → Bool) → (ℕ → Bool) → ℕ → Type 0
-AllSame f h zero = ⊤
-AllSame f h (suc n) = (f n ≡ h n) × AllSame f h n
-
-one_of : (f h : ℕ → Bool) (n k : ℕ) → AllSame f h n → k < n → f k ≡ h k
-one_of f h zero k a l = absurd (omega arith)
-one_of f h (suc n) k a l = go (cases_lt k n) (one_of f h n k a.1)
-  where
-    go : (k < n) ⊎ (n ≤ k) → (k < n → f k ≡ h k) → f k ≡ h k
-    go (inl m) g = g m
-    go (inr m) g = let e : k ≡ n = omega arith in rw e a.0
-
-abbrev lower : (ℕ → Bool) → ℕ → Bool
-lower f k = nat_lt k 32 && f k
-
-abbrev m1 : ℕ → Bool
-m1 = is_set 0x0000FFFF0000FFFF
-
-abbrev m2 : ℕ → Bool
-m2 = is_set 0x00FF00FF00FF00FF
-
-abbrev m3 : ℕ → Bool
-m3 = is_set 0x0F0F0F0F0F0F0F0F
-
-abbrev m4 : ℕ → Bool
-m4 = is_set 0x3333333333333333
-
-abbrev m5 : ℕ → Bool
-m5 = is_set 0x5555555555555555
-
-abbrev all_moved : (ℕ → Bool) → ℕ → Bool
-all_moved f = moved m5 1 (moved m4 2 (moved m3 4 (moved m2 8 (moved m1 16 (lower f)))))
+-- ---- bits at twice their indices
 
 abbrev doubled : (ℕ → Bool) → ℕ → Bool
 doubled f k = eqb (k % 2) 0 && f (k / 2)
 
-kept1 : (b : Bool) → (b || false) ≡ b
-kept1 true = refl
-kept1 false = refl
+abbrev pub wide : ℕ → ℕ
+wide x = get_or SPREAD x 0
 
-kept2 : (b : Bool) → ((b || false) || false) ≡ b
-kept2 true = refl
-kept2 false = refl
+pub wide_small : (x : ℕ) → x < 256 → wide x < 65536
+wide_small x l = ltb-true (wide x) 65536 (agree_below_at (λ y. nat_lt (wide y) 65536) (λ y. true) 256 x refl l)
 
-kept3 : (b : Bool) → (((b || false) || false) || false) ≡ b
-kept3 true = refl
-kept3 false = refl
+pub wide_at : (x k : ℕ) → x < 256 → k < 16 → is_set (wide x) k ≡ doubled (is_set x) k
+wide_at x zero l m = agree_below_at (λ y. is_set (wide y) 0) (λ y. doubled (is_set y) 0) 256 x refl l
+wide_at x (suc zero) l m = agree_below_at (λ y. is_set (wide y) 1) (λ y. doubled (is_set y) 1) 256 x refl l
+wide_at x (suc (suc zero)) l m = agree_below_at (λ y. is_set (wide y) 2) (λ y. doubled (is_set y) 2) 256 x refl l
+wide_at x (suc (suc (suc zero))) l m = agree_below_at (λ y. is_set (wide y) 3) (λ y. doubled (is_set y) 3) 256 x refl l
+wide_at x (suc (suc (suc (suc zero)))) l m = agree_below_at (λ y. is_set (wide y) 4) (λ y. doubled (is_set y) 4) 256 x refl l
+wide_at x (suc (suc (suc (suc (suc zero))))) l m = agree_below_at (λ y. is_set (wide y) 5) (λ y. doubled (is_set y) 5) 256 x refl l
+wide_at x (suc (suc (suc (suc (suc (suc zero)))))) l m = agree_below_at (λ y. is_set (wide y) 6) (λ y. doubled (is_set y) 6) 256 x refl l
+wide_at x (suc (suc (suc (suc (suc (suc (suc zero))))))) l m = agree_below_at (λ y. is_set (wide y) 7) (λ y. doubled (is_set y) 7) 256 x refl l
+wide_at x (suc (suc (suc (suc (suc (suc (suc (suc zero)))))))) l m = agree_below_at (λ y. is_set (wide y) 8) (λ y. doubled (is_set y) 8) 256 x refl l
+wide_at x (suc (suc (suc (suc (suc (suc (suc (suc (suc zero))))))))) l m = agree_below_at (λ y. is_set (wide y) 9) (λ y. doubled (is_set y) 9) 256 x refl l
+wide_at x (suc (suc (suc (suc (suc (suc (suc (suc (suc (suc zero)))))))))) l m = agree_below_at (λ y. is_set (wide y) 10) (λ y. doubled (is_set y) 10) 256 x refl l
+wide_at x (suc (suc (suc (suc (suc (suc (suc (suc (suc (suc (suc zero))))))))))) l m = agree_below_at (λ y. is_set (wide y) 11) (λ y. doubled (is_set y) 11) 256 x refl l
+wide_at x (suc (suc (suc (suc (suc (suc (suc (suc (suc (suc (suc (suc zero)))))))))))) l m = agree_below_at (λ y. is_set (wide y) 12) (λ y. doubled (is_set y) 12) 256 x refl l
+wide_at x (suc (suc (suc (suc (suc (suc (suc (suc (suc (suc (suc (suc (suc zero))))))))))))) l m = agree_below_at (λ y. is_set (wide y) 13) (λ y. doubled (is_set y) 13) 256 x refl l
+wide_at x (suc (suc (suc (suc (suc (suc (suc (suc (suc (suc (suc (suc (suc (suc zero)))))))))))))) l m = agree_below_at (λ y. is_set (wide y) 14) (λ y. doubled (is_set y) 14) 256 x refl l
+wide_at x (suc (suc (suc (suc (suc (suc (suc (suc (suc (suc (suc (suc (suc (suc (suc zero))))))))))))))) l m = agree_below_at (λ y. is_set (wide y) 15) (λ y. doubled (is_set y) 15) 256 x refl l
+wide_at x (suc (suc (suc (suc (suc (suc (suc (suc (suc (suc (suc (suc (suc (suc (suc (suc k)))))))))))))))) l m = absurd (omega arith)
 
-kept4 : (b : Bool) → ((((b || false) || false) || false) || false) ≡ b
-kept4 true = refl
-kept4 false = refl
+-- a word's bits from one on
+set_down : (x s k : ℕ) → is_set (x / 2 ^ s) k ≡ is_set x (k + s)
+set_down x s k =
+    let e : k + s - s ≡ k = omega arith in
+    let f : bit_at (x / 2 ^ s * 2 ^ s + x % 2 ^ s) (k + s) ≡ bit_at (x / 2 ^ s) (k + s - s) = bit_at_cat_high (x / 2 ^ s) s (x % 2 ^ s) (k + s) (mod-lt x (pow-pos s)) (omega arith) in
+    ap (λ z. eqb z 1) (sym (ap (bit_at (x / 2 ^ s)) e) ∙ sym f ∙ ap (λ z. bit_at z (k + s)) (whole x s))
 
-kept5 : (b : Bool) → (((((b || false) || false) || false) || false) || false) ≡ b
-kept5 true = refl
-kept5 false = refl
+-- bits from one on, at twice their indices: so many of a word, and as many of another behind them
+module _ (f : ℕ → Bool) (h a b c : ℕ) (small : a < 2 ^ (2 * h)) (sum : c ≡ b * 2 ^ (2 * h) + a) (low : (k : ℕ) → k < 2 * h → is_set a k ≡ doubled f k) (high : (k : ℕ) → k < 2 * h → is_set b k ≡ doubled (λ i. f (i + h)) k) where
+  joined : (k : ℕ) → k < 2 * (2 * h) → is_set c k ≡ doubled f k
+  joined k l = go (cases_lt k (2 * h))
+    where
+      go : (k < 2 * h) ⊎ (2 * h ≤ k) → is_set c k ≡ doubled f k
+      go (inl m) = ap (λ z. is_set z k) sum ∙ ap (λ z. eqb z 1) (bit_at_cat_low b (2 * h) a k m) ∙ low k m
+      go (inr m) =
+          let e : (k - 2 * h) % 2 ≡ k % 2 = omega (arith, m) in
+          let i : (k - 2 * h) / 2 + h ≡ k / 2 = omega (arith, m) in
+          ap (λ z. is_set z k) sum ∙ ap (λ z. eqb z 1) (bit_at_cat_high b (2 * h) a k small m) ∙ high (k - 2 * h) (omega (arith, l, m)) ∙ ap₂ (λ x y. eqb x 0 && f y) e i
 
-spread_all : (f : ℕ → Bool) → AllSame (all_moved f) (doubled f) 64
-spread_all f = (refl, (refl, (refl, (kept1 (f 30), (refl, (kept1 (f 29), (refl, (kept2 (f 28), (refl, (kept1 (f 27), (refl, (kept2 (f 26), (refl, (kept2 (f 25), (refl, (kept3 (f 24), (refl, (kept1 (f 23), (refl, (kept2 (f 22), (refl, (kept2 (f 21), (refl, (kept3 (f 20), (refl, (kept2 (f 19), (refl, (kept3 (f 18), (refl, (kept3 (f 17), (refl, (kept4 (f 16), (refl, (kept1 (f 15), (refl, (kept2 (f 14), (refl, (kept2 (f 13), (refl, (kept3 (f 12), (refl, (kept2 (f 11), (refl, (kept3 (f 10), (refl, (kept3 (f 9), (refl, (kept4 (f 8), (refl, (kept2 (f 7), (refl, (kept3 (f 6), (refl, (kept3 (f 5), (refl, (kept4 (f 4), (refl, (kept3 (f 3), (refl, (kept4 (f 2), (refl, (kept4 (f 1), (refl, (kept5 (f 0), tt))))))))))))))))))))))))))))))))))))))))))))))))))))))))))))))))
+-- four bytes of a word
+module _ (word a b c d : ℕ) (ea : (k : ℕ) → k < 16 → is_set a k ≡ doubled (is_set (word % 256)) k) (eb : (k : ℕ) → k < 16 → is_set b k ≡ doubled (is_set (word / 2 ^ 8 % 256)) k) (ec : (k : ℕ) → k < 16 → is_set c k ≡ doubled (is_set (word / 2 ^ 16 % 256)) k)
+    (ed : (k : ℕ) → k < 16 → is_set d k ≡ doubled (is_set (word / 2 ^ 24 % 256)) k) (sa : a < 65536) (sb : b < 65536) (sc : c < 65536) where
+  byte_at : (s k : ℕ) → k < 16 → doubled (is_set (word / 2 ^ s % 256)) k ≡ doubled (λ i. is_set word (i + s)) k
+  byte_at s k l = ap (λ z. eqb (k % 2) 0 && z) (set_low (word / 2 ^ s) 8 (k / 2) (omega (arith, l)) ∙ set_down word s (k / 2))
 
-pub spread_is : (word a b c d e : ℕ) → word < 2 ^ 32 → Same 64 (is_set a) (moved m1 16 (is_set word)) → Same 64 (is_set b) (moved m2 8 (is_set a)) → Same 64 (is_set c) (moved m3 4 (is_set b)) → Same 64 (is_set d) (moved m4 2 (is_set c)) → Same 64 (is_set e) (moved m5 1 (is_set d))
-    → (k : ℕ) → k < 64 → is_set e k ≡ (eqb (k % 2) 0 && is_set word (k / 2))
-spread_is word a b c d e w ha hb hc hd he k l =
-    let f = is_set word in
-    let f0 = lower f in
-    let f1 = moved m1 16 f0 in
-    let f2 = moved m2 8 f1 in
-    let f3 = moved m3 4 f2 in
-    let f4 = moved m4 2 f3 in
-    let e1 : Same 64 (is_set a) f1 = λ k l. ha k l ∙ moved_same m1 16 f f0 (λ k l. low k) k l in
-    let e2 : Same 64 (is_set b) f2 = λ k l. hb k l ∙ moved_same m2 8 (is_set a) f1 e1 k l in
-    let e3 : Same 64 (is_set c) f3 = λ k l. hc k l ∙ moved_same m3 4 (is_set b) f2 e2 k l in
-    let e4 : Same 64 (is_set d) f4 = λ k l. hd k l ∙ moved_same m4 2 (is_set c) f3 e3 k l in
-    he k l ∙ moved_same m5 1 (is_set d) f4 e4 k l ∙ one_of (all_moved f) (doubled f) 64 k (spread_all f) l
-  where
-    low : (k : ℕ) → is_set word k ≡ lower (is_set word) k
-    low k = go (cases_lt k 32)
-      where
-        go : (k < 32) ⊎ (32 ≤ k) → is_set word k ≡ lower (is_set word) k
-        go (inl m) = ap (λ b. b && is_set word k) (sym (lt-ltb k 32 m))
-        go (inr m) = ap (λ z. eqb z 1) (bit_at_above word 32 k w m) ∙ ap (λ b. b && is_set word k) (sym (not_lt k 32 m))
+  moved : (s t : ℕ) (k : ℕ) → doubled (λ i. is_set word (i + (s + t))) k ≡ doubled (λ i. is_set word (i + s + t)) k
+  moved s t k = let e : k / 2 + (s + t) ≡ k / 2 + s + t = omega arith in ap (λ z. eqb (k % 2) 0 && is_set word z) e
+
+  first : (k : ℕ) → k < 16 → is_set a k ≡ doubled (is_set word) k
+  first k l = ea k l ∙ ap (λ z. eqb (k % 2) 0 && z) (set_low word 8 (k / 2) (omega (arith, l)))
+
+  lower : (k : ℕ) → k < 32 → is_set (a + 65536 * b) k ≡ doubled (is_set word) k
+  lower = joined (is_set word) 8 a b (a + 65536 * b) sa (omega arith) first (λ k l. eb k l ∙ byte_at 8 k l)
+
+  upper : (k : ℕ) → k < 32 → is_set (c + 65536 * d) k ≡ doubled (λ i. is_set word (i + 16)) k
+  upper = joined (λ i. is_set word (i + 16)) 8 c d (c + 65536 * d) sc (omega arith) (λ k l. ec k l ∙ byte_at 16 k l) (λ k l. ed k l ∙ byte_at 24 k l ∙ moved 8 16 k)
+
+  pub spread_is : (k : ℕ) → k < 64 → is_set (a + 65536 * b + 4294967296 * (c + 65536 * d)) k ≡ (eqb (k % 2) 0 && is_set word (k / 2))
+  spread_is = joined (is_set word) 16 (a + 65536 * b) (c + 65536 * d) (a + 65536 * b + 4294967296 * (c + 65536 * d)) (omega (arith, sa, sb)) (omega arith) lower upper
 
 pub before_are : (set word e o es os : ℕ) → word < 2 ^ 64 → ((k : ℕ) → k < 32 → is_set e k ≡ (is_set (bit_and set (bit_not w64 word)) k || is_set (bit_and set (bit_not w64 word)) (k + 32)))
     → ((k : ℕ) → k < 32 → is_set o k ≡ (is_set (bit_and set word) k || is_set (bit_and set word) (k + 32)))

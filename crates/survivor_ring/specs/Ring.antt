@@ -1,7 +1,6 @@
 -- The bits of decision words, and the traceback through them.
 use Rattle.std.specs.Prelude.{◌≡◌, ℕ, ◌+◌, ◌-◌, ◌*◌, ◌/◌, ◌%◌, ◌<◌, ◌≤◌, ◌==◌, length, slice_index, Bool, true, false}
 use Rattle.std.specs.Prelude.{cond, not, ◌&&◌, ◌||◌, List, [], ◌∷◌, ◌++◌, IsTrue, ◌⊎◌}
-use Rattle.std.specs.Bool.{nat_lt}
 use Rattle.spec_words.specs.Bits.{bit, is_set}
 use Rattle.code_paths.specs.States.{before}
 
@@ -26,10 +25,6 @@ pub record IsTraced (bits : List Bool) (from last : ℕ) (bytes : List ℕ) : Ty
 abbrev pub TraceFollows : Type 0
 TraceFollows = (words : List ℕ) (word n : ℕ) → trace (words ++ word ∷ []) n ≡ trace words (before word n) ++ is_set n 5
     ∷ []
-
--- one move of bits to higher indices
-abbrev pub moved : (ℕ → Bool) → ℕ → (ℕ → Bool) → ℕ → Bool
-moved mask shift f k = mask k && (f k || (not (nat_lt k shift) && f (k - shift)))
 
 -- a state of the set and its decision lead back to m
 abbrev pub leads : ℕ → ℕ → ℕ → ℕ → Bool

@@ -4,7 +4,7 @@ ghost use Rattle.std.specs.Prelude.{◌&&◌, ◌||◌, length, take, drop, IsTr
 ghost use Rattle.spec_words.specs.Bits.{is_set, spelled};
 ghost use Rattle.code_paths.specs.States.{before};
 ghost use Rattle.survivor_ring.specs.Survivors.{IsAlike};
-ghost use Rattle.survivor_ring.specs.Ring.{TraceFollows, root, trace, IsTraced, moved, AreBefore, IsSplit, IsUniform};
+ghost use Rattle.survivor_ring.specs.Ring.{TraceFollows, root, trace, IsTraced, AreBefore, IsSplit, IsUniform};
 ghost use Rattle.survivor_ring.specs.Ring.{IsSingle, Chosen};
 ghost use Rattle.std.specs.Prelude.{slice_index, IsFalse, ◌^◌};
 ghost use Rattle.bit_pack.specs.Queue.{bits_of_bytes};
@@ -22,22 +22,44 @@ fn folded(word: u64) -> u32
     ((word | word >> 32) & 0xFFFF_FFFF) as u32
 }
 
-fn stage(word: u64, shift: u8, mask: u64) -> u64
-    requires { shift < 64 }
-    ensures { (k : ℕ) → k < 64 → is_set result k ≡ moved (is_set mask) shift (is_set word) k }
+/// The bits of each byte at twice their indices.
+static SPREAD: [u16; 256] = [
+    0, 1, 4, 5, 16, 17, 20, 21, 64, 65, 68, 69, 80, 81, 84, 85, 256, 257, 260, 261, 272, 273, 276,
+    277, 320, 321, 324, 325, 336, 337, 340, 341, 1024, 1025, 1028, 1029, 1040, 1041, 1044, 1045,
+    1088, 1089, 1092, 1093, 1104, 1105, 1108, 1109, 1280, 1281, 1284, 1285, 1296, 1297, 1300, 1301,
+    1344, 1345, 1348, 1349, 1360, 1361, 1364, 1365, 4096, 4097, 4100, 4101, 4112, 4113, 4116, 4117,
+    4160, 4161, 4164, 4165, 4176, 4177, 4180, 4181, 4352, 4353, 4356, 4357, 4368, 4369, 4372, 4373,
+    4416, 4417, 4420, 4421, 4432, 4433, 4436, 4437, 5120, 5121, 5124, 5125, 5136, 5137, 5140, 5141,
+    5184, 5185, 5188, 5189, 5200, 5201, 5204, 5205, 5376, 5377, 5380, 5381, 5392, 5393, 5396, 5397,
+    5440, 5441, 5444, 5445, 5456, 5457, 5460, 5461, 16384, 16385, 16388, 16389, 16400, 16401,
+    16404, 16405, 16448, 16449, 16452, 16453, 16464, 16465, 16468, 16469, 16640, 16641, 16644,
+    16645, 16656, 16657, 16660, 16661, 16704, 16705, 16708, 16709, 16720, 16721, 16724, 16725,
+    17408, 17409, 17412, 17413, 17424, 17425, 17428, 17429, 17472, 17473, 17476, 17477, 17488,
+    17489, 17492, 17493, 17664, 17665, 17668, 17669, 17680, 17681, 17684, 17685, 17728, 17729,
+    17732, 17733, 17744, 17745, 17748, 17749, 20480, 20481, 20484, 20485, 20496, 20497, 20500,
+    20501, 20544, 20545, 20548, 20549, 20560, 20561, 20564, 20565, 20736, 20737, 20740, 20741,
+    20752, 20753, 20756, 20757, 20800, 20801, 20804, 20805, 20816, 20817, 20820, 20821, 21504,
+    21505, 21508, 21509, 21520, 21521, 21524, 21525, 21568, 21569, 21572, 21573, 21584, 21585,
+    21588, 21589, 21760, 21761, 21764, 21765, 21776, 21777, 21780, 21781, 21824, 21825, 21828,
+    21829, 21840, 21841, 21844, 21845,
+];
+
+/// Moves each bit of a byte to twice its index.
+fn spread_byte(byte: u8) -> u64
+    ensures small { result < 65536 }
+    ensures bits { (k : ℕ) → k < 16 → is_set result k ≡ ((k % 2 == 0) && is_set byte (k / 2)) }
 {
-    (word | word << shift) & mask
+    SPREAD[byte as usize] as u64
 }
 
 /// Moves each bit to twice its index.
 fn spread(word: u32) -> u64
     ensures { (k : ℕ) → k < 64 → is_set result k ≡ ((k % 2 == 0) && is_set word (k / 2)) }
 {
-    let a = stage(word as u64, 16, 0x0000_FFFF_0000_FFFF);
-    let b = stage(a, 8, 0x00FF_00FF_00FF_00FF);
-    let c = stage(b, 4, 0x0F0F_0F0F_0F0F_0F0F);
-    let d = stage(c, 2, 0x3333_3333_3333_3333);
-    stage(d, 1, 0x5555_5555_5555_5555)
+    let low = spread_byte((word % 256) as u8) + 65536 * spread_byte(((word >> 8) % 256) as u8);
+    let high = spread_byte(((word >> 16) % 256) as u8)
+        + 65536 * spread_byte(((word >> 24) % 256) as u8);
+    low + 0x1_0000_0000 * high
 }
 
 /// The predecessors, by a decision word, of the states of a set.
